@@ -1,0 +1,10 @@
+//! Files by name.
+
+use crate::list::{Items, Text};
+
+/// A file: its name, and its bytes.
+#[derive(Debug, Drop)]
+pub struct NamedFile {
+    pub name: Text,
+    pub bytes: Items<u8>,
+}
