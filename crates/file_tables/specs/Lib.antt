@@ -1,0 +1,9 @@
+pub mod Bytes
+pub mod Schema
+pub mod Rules
+pub mod Pe
+pub mod Heaps
+pub mod Streams
+pub mod Tables
+pub mod Metadata
+pub mod File
