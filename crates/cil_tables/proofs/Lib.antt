@@ -1,0 +1,11 @@
+pub mod Texts
+pub mod StreamLaws
+pub mod SchemaLaws
+pub mod Ranges
+pub mod LayoutLaws
+pub mod RowLaws
+pub mod MetadataLaws
+pub mod CheckLaws
+pub mod OpenLaws
+pub mod CharLaws
+pub mod IndexLaws

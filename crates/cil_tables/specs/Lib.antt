@@ -1,0 +1,7 @@
+pub mod Seen
+pub mod Texts
+pub mod Place
+pub mod Shape
+pub mod Layout
+pub mod Inside
+pub mod IndexOf
