@@ -1,0 +1,4 @@
+pub mod Lengths
+pub mod Parts
+pub mod Unrolled
+pub mod Walked

@@ -1,0 +1,4 @@
+pub mod Instructions
+pub mod Walk
+pub mod Sections
+pub mod Bodies

@@ -1,0 +1,11 @@
+//! Signatures of methods, fields, locals and array types (ECMA-335 II.23.2).
+#![tactic(auto)]
+
+pub mod compressed;
+pub mod elements;
+mod reading;
+pub mod sig;
+pub mod signatures;
+mod stop;
+#[cfg(test)]
+mod tests;
