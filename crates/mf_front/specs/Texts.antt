@@ -1,0 +1,43 @@
+-- What is printed at each outcome, and its status.
+use Rattle.std.specs.Prelude.{ℕ, codes, List, [], ◌∷◌, ◌++◌}
+use Rattle.std.specs.Fmt.{decimal, signed_decimal}
+use Rattle.mf_types.specs.declared.fault.Place.{Place}
+use Rattle.mf_types.specs.declared.fault.Fault.{Fault}
+use Rattle.mf_front.specs.declared.outcome.End.{End}
+use Rattle.mf_front.specs.declared.outcome.End.TheVariants.{Returned, StepsSpent}
+use Rattle.mf_front.specs.declared.outcome.Outcome.{Outcome}
+use Rattle.mf_front.specs.declared.outcome.Outcome.TheVariants.{Usage, Refused, ReadFault, NoMemory, Ran}
+
+-- each text ends with a line end
+abbrev pub line_end : List ℕ
+line_end = 10 ∷ []
+
+unfoldable pub usage_text : List ℕ
+usage_text = codes "usage: mfdeploy run1 FILE STEPS" ++ line_end
+
+-- a place in a file
+unfoldable pub place_text : Place → List ℕ
+place_text place =
+    codes " table " ++ decimal place.table ++ codes " row " ++ decimal place.row ++ codes " offset " ++ decimal place.offset ++ line_end
+
+-- the rule, the file, and the place in it
+unfoldable pub refused_text : Fault → List ℕ → List ℕ
+refused_text fault file = codes "refused: rule " ++ decimal fault.rule ++ codes " " ++ file ++ place_text fault.place
+
+unfoldable pub end_text : End → List ℕ
+end_text (Returned value) = codes "end: returned " ++ signed_decimal value ++ line_end
+end_text StepsSpent = codes "end: steps spent" ++ line_end
+
+unfoldable pub text_of : Outcome → List ℕ
+text_of Usage = usage_text
+text_of (Refused fault file) = refused_text fault file
+text_of (ReadFault file) = codes "read fault: " ++ file ++ line_end
+text_of NoMemory = codes "no memory" ++ line_end
+text_of (Ran end) = end_text end
+
+abbrev pub status_of : Outcome → ℕ
+status_of Usage = 1
+status_of (Refused fault file) = 2
+status_of (ReadFault file) = 6
+status_of NoMemory = 8
+status_of (Ran end) = 0

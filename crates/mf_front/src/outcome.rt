@@ -1,0 +1,28 @@
+//! What a call comes to.
+
+use mf_types::fault::Fault;
+use mf_types::list::Text;
+
+/// How a run ended.
+#[derive(Clone, Copy, Debug, PartialEq, Eq)]
+pub enum End {
+    /// Main returned a number.
+    Returned(i32),
+    /// The steps allowed were done, and the run hadn't ended.
+    StepsSpent,
+}
+
+/// What a call comes to, with all that its text tells.
+#[derive(Debug, Drop)]
+pub enum Outcome {
+    /// The words are no job.
+    Usage,
+    /// A file breaks a rule.
+    Refused { fault: Fault, file: Text },
+    /// A file couldn't be read.
+    ReadFault { file: Text },
+    /// The host has no memory left.
+    NoMemory,
+    /// A run ended.
+    Ran(End),
+}

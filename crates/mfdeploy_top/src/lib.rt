@@ -1,0 +1,47 @@
+//! The call on which the program stands.
+#![tactic(auto)]
+
+ghost use Rattle.std.specs.Prelude.{map};
+ghost use Rattle.std.specs.String.{string_bytes};
+ghost use Rattle.mf_types.specs.Files.{FilesStay};
+ghost use Rattle.mf_front.specs.declared.outcome.Outcome.{Outcome};
+ghost use Rattle.mf_front.specs.Words.{job_of};
+ghost use Rattle.mfdeploy_top.specs.FirstPath.{ComesTo};
+ghost use Rattle.mfdeploy_top.specs.Writing.{EndsWith};
+
+mod first_path;
+mod form;
+mod tell;
+#[cfg(test)]
+mod tests;
+mod writing;
+
+use first_path::outcome_of;
+use mf_types::sink::Sink;
+use mf_types::store::Store;
+use std::alloc::Global;
+use tell::tell;
+
+/// Does the job that the words after the program's name spell, writes its text to the sink, and gives the status.
+///
+/// The one job is `run1 FILE STEPS`: it reads one file, and runs its entry method for at most so many steps, where
+/// that is an expression of constants. The statuses are 0 done, 1 the words are no job, 2 the file breaks a rule or
+/// hasn't the form, 6 the file couldn't be read, 7 the sink failed, and 8 no memory.
+pub fn mfdeploy<S: Store, K: Sink>(
+    alloc: Global,
+    words: &[String],
+    store: &mut S,
+    sink: &mut K,
+) -> u8
+    // There is an outcome that the job comes to, and the call ends with its status and its text, or with a failing sink.
+    ensures ends { (outcome : Outcome)
+        × ComesTo (job_of (map string_bytes words.now)) (S.tells store.old) (S.held store.old)
+        (S.faults store.old) (S.faults store.new) (S.failed store.new) outcome
+        × EndsWith outcome result (K.tells sink.old) (K.written sink.old) (K.written sink.new)
+        (K.faults sink.old) (K.faults sink.new) }
+
+    ensures files_stay { FilesStay (S.held store.old) (S.held store.new) }
+{
+    let outcome = outcome_of(alloc, words, store);
+    tell(alloc, &outcome, sink)
+}

@@ -1,0 +1,29 @@
+//! Writing the text of an outcome.
+
+ghost use Rattle.std.specs.Prelude.{◌≡◌, ◌≤◌, ◌++◌, IsTrue, OnOk, OnErr};
+ghost use Rattle.mf_types.specs.Counts.{Rose};
+ghost use Rattle.mf_types.specs.Pieces.{AppendsFront};
+
+use mf_types::fault::Failed;
+use mf_types::sink::Sink;
+
+/// How many bytes are written at once, at most.
+const PIECE: usize = 4096;
+
+/// Writes a text in pieces.
+pub fn write_text<K: Sink>(sink: &mut K, text: &[u8]) -> Result<(), Failed>
+    ensures ok { OnOk result (IsTrue (K.tells sink.old) → K.written sink.new ≡ K.written sink.old ++ text.now) }
+    ensures failed { OnErr result (IsTrue (K.tells sink.old) → AppendsFront (K.written sink.old) (K.written sink.new) text.now) }
+    ensures cause { OnErr result (Rose (K.faults sink.old) (K.faults sink.new)) }
+    ensures count { K.faults sink.old ≤ K.faults sink.new }
+{
+    let mut done = 0;
+    while done < text.len() {
+        let end = done + PIECE.min(text.len() - done);
+        if let Err(failed) = sink.write(&text[done..end]) {
+            return Err(failed);
+        }
+        done = end;
+    }
+    Ok(())
+}
