@@ -1,0 +1,3 @@
+pub mod Sofar
+pub mod Whole
+pub mod Undone

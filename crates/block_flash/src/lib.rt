@@ -1,0 +1,5 @@
+//! A block flash in memory, with stops of the power, failures and a record of its operations.
+#![tactic(auto)]
+
+pub mod change;
+pub mod memory_flash;

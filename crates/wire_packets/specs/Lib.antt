@@ -1,0 +1,4 @@
+pub mod Decoding
+pub mod Made
+pub mod Spelling
+pub mod Stream

@@ -1,0 +1,9 @@
+//! Packets between the tool and the board, and how they are spelt in bytes.
+#![tactic(auto)]
+
+pub mod decoding;
+pub mod encoding;
+pub mod laws;
+pub mod packet;
+#[cfg(test)]
+mod tests;

@@ -1,0 +1,48 @@
+-- The asking end of a session.
+use Rattle.std.specs.Prelude.{ℕ, zero, suc, ◌+◌, ◌&&◌, Bool, false, nat_lt, if◌then◌else◌, Option, Some, None, is_some, List}
+use Rattle.wire_packets.specs.declared.packet.Packet.{Packet}
+use Rattle.wire_packets.specs.Made.{packet_with}
+use Rattle.wire_session.specs.Replies.{matches}
+
+pub record Asking : Type 0 where
+  -- how many requests were asked, which is the number of the last one
+  pub asked : ℕ
+  -- the request that waits for its reply
+  pub waiting : Option Packet
+  -- the turns taken for the last request
+  pub turns : ℕ
+
+-- a session in which nothing was asked
+abbrev pub nothing_asked : Asking
+nothing_asked = record { asked = 0; waiting = None; turns = 0 }
+
+-- the next request
+abbrev pub next_request : Asking → ℕ → List ℕ → Packet
+next_request a command payload = packet_with command (a.asked + 1) 0 0 payload
+
+abbrev pub after_ask : Asking → ℕ → List ℕ → Asking
+after_ask a command payload = record { asked = a.asked + 1; waiting = Some (next_request a command payload); turns = 0 }
+
+-- the packet is the reply to the open request
+abbrev pub waiting_matches : Option Packet → Packet → Bool
+waiting_matches None p = false
+waiting_matches (Some request) p = matches request p
+
+abbrev pub is_awaited : Asking → Packet → Bool
+is_awaited a p = waiting_matches a.waiting p
+
+-- the request is open no more once its reply came
+abbrev pub after_reply : Asking → Packet → Asking
+after_reply a p = record { asked = a.asked; waiting = (if is_awaited a p then None else a.waiting); turns = a.turns }
+
+-- a turn is left: a request is open, and fewer than eight turns of it were taken
+abbrev pub has_turn : Asking → Bool
+has_turn a = is_some a.waiting && nat_lt a.turns 8
+
+abbrev pub after_turn : Asking → Asking
+after_turn a = record { asked = a.asked; waiting = a.waiting; turns = (if has_turn a then a.turns + 1 else a.turns) }
+
+-- after so many turns
+abbrev pub after_turns : ℕ → Asking → Asking
+after_turns zero a = a
+after_turns (suc n) a = after_turn (after_turns n a)

@@ -1,0 +1,81 @@
+//! Which reply a request waits for.
+
+ghost use Rattle.std.specs.Prelude.{◌≡◌, ◌<◌, length};
+ghost use Rattle.wire_session.specs.Replies.{flash_shape, numbers_fit, is_run_end, has_asked_length, fits, answers, matches};
+
+use wire_packets::decoding::u32_at;
+use wire_packets::packet::Packet;
+
+/// The most bytes that a result text has.
+pub const MAX_TEXT: u32 = 4_259_851;
+
+/// The payload after status 0 of the reply to Open: 32 sectors of 8,192 bytes.
+const FLASH_SHAPE: [u8; 8] = [32, 0, 0, 0, 0, 32, 0, 0];
+
+/// Whether the numbers that a kind of end doesn't use are 0.
+fn numbers_fit(kind: u8, a: u32, b: u32, c: u32) -> bool
+    ensures { result ≡ numbers_fit kind a b c }
+{
+    match kind {
+        11 => true,
+        10 | 12 => b == 0 && c == 0,
+        0 | 9 => a == 0 && b == 0 && c == 0,
+        _ => false,
+    }
+}
+
+/// Whether the bytes tell the end of a run.
+#[tactic(auto, unfolding(crate::specs::Replies::is_run_end))]
+fn is_run_end(body: &[u8]) -> bool
+    ensures { result ≡ is_run_end body.now }
+{
+    body.len() == 17
+        && numbers_fit(body[0], u32_at(body, 1), u32_at(body, 5), u32_at(body, 9))
+        && u32_at(body, 13) <= MAX_TEXT
+}
+
+/// Whether there are as many bytes as the request asks for.
+#[tactic(auto, unfolding(crate::specs::Replies::has_asked_length))]
+fn has_asked_length(payload: &[u8], body: &[u8]) -> bool
+    ensures { result ≡ has_asked_length payload.now body.now }
+{
+    payload.len() == 8 && body.len() == u32_at(payload, 4) as usize
+}
+
+/// Whether the bytes follow status 0 in the reply to a request.
+#[tactic(auto, unfolding(crate::specs::Replies::fits))]
+fn fits(command: u32, payload: &[u8], body: &[u8]) -> bool
+    ensures { result ≡ fits command payload.now body.now }
+{
+    match command {
+        1 => body == FLASH_SHAPE.as_slice(),
+        2 | 6 => has_asked_length(payload, body),
+        5 => is_run_end(body),
+        3 | 4 | 7 => body.is_empty(),
+        _ => false,
+    }
+}
+
+/// Whether a payload answers a request.
+#[tactic(auto, unfolding(crate::specs::Replies::answers))]
+fn answers(request: &Packet, payload: &[u8]) -> bool
+    ensures { result ≡ answers request.now payload.now }
+{
+    match payload {
+        [] => false,
+        [0, body @ ..] => fits(request.command, request.payload.as_slice(), body),
+        [status, body @ ..] => (*status == 2 || *status == 3) && body.is_empty(),
+    }
+}
+
+/// Whether a packet is a reply that a request waits for: a reply with its number and command, whose payload is status
+/// 0 with what the command asks for, or status 2 or 3 alone. The packet's own number isn't looked at.
+#[tactic(auto, unfolding(crate::specs::Replies::matches))]
+pub fn matches(request: &Packet, reply: &Packet) -> bool
+    ensures { result ≡ matches request.now reply.now }
+{
+    reply.flags == 1
+        && reply.command == request.command
+        && reply.reply_seq == request.seq
+        && answers(request, reply.payload.as_slice())
+}
