@@ -1,0 +1,6 @@
+pub mod Samples
+pub mod NumberRuns
+pub mod ThrowRuns
+pub mod MemoryRuns
+pub mod ObjectRuns
+pub mod NativeRuns

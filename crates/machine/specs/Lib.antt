@@ -1,0 +1,11 @@
+pub mod Data
+pub mod Program
+pub mod Numbers
+pub mod Texts
+pub mod Throw
+pub mod Rows
+pub mod Objects
+pub mod Natives
+pub mod Calls
+pub mod Step
+pub mod Trace

@@ -1,0 +1,4 @@
+//! The laws of renamed programs and of typed programs, joined.
+#![tactic(auto)]
+
+pub mod law;

@@ -1,0 +1,17 @@
+pub mod Base
+pub mod ThrowLaws
+pub mod ValueLaws
+pub mod RowLaws
+pub mod ObjectLaws
+pub mod NativeLaws
+pub mod CallLaws
+pub mod StepLaws
+pub mod TraceLaws
+pub mod Wider
+pub mod Whole
+pub mod AgainLaws
+pub mod LeaveLaws
+pub mod PlaceLaws
+pub mod KeptLaws
+pub mod GrowsBase
+pub mod GrowsRows

@@ -1,0 +1,4 @@
+pub mod Rename
+pub mod Again
+pub mod Places
+pub mod Runs
