@@ -5,3 +5,4 @@ pub mod Types
 pub mod Wholes
 pub mod Near
 pub mod Calls
+pub mod Suffixes

@@ -64,7 +64,7 @@ accepted_near : (bytes : List ℕ) (part : Part (ℕ × List ℕ)) (test : ℕ �
 accepted_near bytes (Ok x) test near = near_if 4 bytes (test x.0) (Ok x) (no_case bytes) near (omega arith, omega arith)
 accepted_near bytes (Err left) test near = near
 
-count_near : (bytes : List ℕ) → IsNear 4 bytes (count_at bytes)
+pub count_near : (bytes : List ℕ) → IsNear 4 bytes (count_at bytes)
 unfolding count_at
 count_near bytes = tested_near bytes (number_at bytes) (λ count. ltb MAX_COUNT count) (number_near bytes)
 
@@ -126,12 +126,12 @@ parameter_near [] = at_most 260 261 [] (type_at []) (omega arith) (type_near [])
 parameter_near (code ∷ rest) =
     near_if 261 (code ∷ rest) (eqb code POINTER) (pointer_at rest) (type_at (code ∷ rest)) (past_near 260 code rest (pointer_at rest) (pointer_near rest)) (at_most 260 261 (code ∷ rest) (type_at (code ∷ rest)) (omega arith) (type_near (code ∷ rest)))
 
-result_near : (bytes : List ℕ) → IsNear 260 bytes (result_at bytes)
+pub result_near : (bytes : List ℕ) → IsNear 260 bytes (result_at bytes)
 unfolding result_at
 result_near [] = type_near []
 result_near (code ∷ rest) = near_if 260 (code ∷ rest) (eqb code VOID) (Ok (no_value, rest)) (type_at (code ∷ rest)) (omega arith, omega arith) (type_near (code ∷ rest))
 
-slot_near : (slot : Slot) (bytes : List ℕ) → IsNear 261 bytes (slot_at slot bytes)
+pub slot_near : (slot : Slot) (bytes : List ℕ) → IsNear 261 bytes (slot_at slot bytes)
 slot_near Parameter bytes = parameter_near bytes
 slot_near Local bytes = at_most 260 261 bytes (type_at bytes) (omega arith) (type_near bytes)
 
@@ -154,7 +154,7 @@ mark_near mark (b ∷ rest) = by (eqb b mark) where
   by true = tt
   by false = (omega arith, omega arith)
 
-this_near : (bytes : List ℕ) → IsNear 1 bytes (this_at bytes)
+pub this_near : (bytes : List ℕ) → IsNear 1 bytes (this_at bytes)
 this_near [] = (omega arith, omega arith)
 this_near (b ∷ rest) =
     near_if 1 (b ∷ rest) (eqb b INSTANCE_METHOD) (Ok (true, rest)) _ (omega arith, omega arith)

@@ -3,6 +3,7 @@
 
 pub mod compressed;
 pub mod elements;
+pub mod places;
 mod reading;
 pub mod sig;
 pub mod signatures;

@@ -80,7 +80,7 @@ fn named_element(bytes: &[u8]) -> Result<((Elem, u32), &[u8]), NoCase>
     Ok(((elem, token), rest))
 }
 
-fn bracket_count(bytes: &[u8]) -> usize
+pub fn bracket_count(bytes: &[u8]) -> usize
     ensures { result ≡ brackets bytes.now }
 {
     bytes.iter().take_while(|code| **code == ARRAY).count()
@@ -141,7 +141,7 @@ pub fn result_type(bytes: &[u8]) -> Result<(SigType, &[u8]), NoCase>
     }
 }
 
-fn slot_type(slot: Slot, bytes: &[u8]) -> Result<(SigType, &[u8]), NoCase>
+pub fn slot_type(slot: Slot, bytes: &[u8]) -> Result<(SigType, &[u8]), NoCase>
     ensures { Gives (λ x. (x.0, x.1.now)) result (slot_at slot bytes.now) }
 {
     match slot {

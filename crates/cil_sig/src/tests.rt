@@ -1,4 +1,5 @@
 use crate::compressed::compressed;
+use crate::places::{Position, element_place};
 use crate::sig::{SigFault, SigType};
 use crate::signatures::{field_sig, locals_sig, method_sig, spec_sig};
 use mf_types::elem::Elem;
@@ -132,5 +133,31 @@ fn compressed_numbers(rt: HostRuntime) {
     ] {
         let read = compressed(bytes).map(|(number, rest)| (number, rest.len()));
         assert_eq!(rt; read, Some((number, left)), "{bytes:?}");
+    }
+}
+
+#[test]
+fn places_of_types(rt: HostRuntime) {
+    let method = [0x20, 0x02, 0x12, 0x04, 0x10, 0x1D, 0x11, 0x08, 0x0E];
+    let locals = [0x07, 0x02, 0x12, 0x80, 0x04, 0x1D, 0x12, 0x09];
+    for (position, blob, place) in [
+        (Position::Returned, method.as_slice(), Some(2)),
+        (Position::Parameter(0), method.as_slice(), Some(6)),
+        (Position::Parameter(1), method.as_slice(), Some(8)),
+        (Position::Parameter(2), method.as_slice(), None),
+        (Position::Local(1), locals.as_slice(), Some(6)),
+        (
+            Position::Field,
+            [0x06, 0x1D, 0x12, 0x04].as_slice(),
+            Some(2),
+        ),
+        (Position::Spec, [0x1D, 0x1D, 0x12, 0x04].as_slice(), Some(2)),
+        (Position::Field, [0x07, 0x08].as_slice(), None),
+    ] {
+        assert_eq!(rt;
+            element_place(position, blob),
+            place,
+            "{position:?} of {blob:?}"
+        );
     }
 }
