@@ -1,6 +1,7 @@
 //! Packets between the tool and the board, and how they are spelt in bytes.
 #![tactic(auto)]
 
+pub mod command;
 pub mod decoding;
 pub mod encoding;
 pub mod laws;

@@ -3,6 +3,9 @@
 ghost use Rattle.std.specs.Prelude.{◌≡◌, ◌<◌, length};
 ghost use Rattle.wire_session.specs.Replies.{flash_shape, numbers_fit, is_run_end, has_asked_length, fits, answers, matches};
 
+use wire_packets::command::{
+    CLOSE, DONE, ERASE, FETCH, FLASH_FAILED, NO_MEMORY, OPEN, PROGRAM, READ, RUN,
+};
 use wire_packets::decoding::u32_at;
 use wire_packets::packet::Packet;
 
@@ -48,10 +51,10 @@ fn fits(command: u32, payload: &[u8], body: &[u8]) -> bool
     ensures { result ≡ fits command payload.now body.now }
 {
     match command {
-        1 => body == FLASH_SHAPE.as_slice(),
-        2 | 6 => has_asked_length(payload, body),
-        5 => is_run_end(body),
-        3 | 4 | 7 => body.is_empty(),
+        OPEN => body == FLASH_SHAPE.as_slice(),
+        READ | FETCH => has_asked_length(payload, body),
+        RUN => is_run_end(body),
+        PROGRAM | ERASE | CLOSE => body.is_empty(),
         _ => false,
     }
 }
@@ -63,8 +66,8 @@ fn answers(request: &Packet, payload: &[u8]) -> bool
 {
     match payload {
         [] => false,
-        [0, body @ ..] => fits(request.command, request.payload.as_slice(), body),
-        [status, body @ ..] => (*status == 2 || *status == 3) && body.is_empty(),
+        [DONE, body @ ..] => fits(request.command, request.payload.as_slice(), body),
+        [status, body @ ..] => (*status == FLASH_FAILED || *status == NO_MEMORY) && body.is_empty(),
     }
 }
 
