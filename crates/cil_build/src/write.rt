@@ -1,0 +1,119 @@
+//! Numbers, zeros and the entries of heaps at the end of a list of bytes.
+
+ghost use Rattle.std.specs.Prelude.{◌≡◌, ◌++◌, ◌<◌, ◌≤◌, ◌+◌, ◌*◌, ◌^◌, ◌-◌, OnOk, length, replicate, take, [], ◌∷◌};
+ghost use Rattle.cil_layout.specs.Layout.{two, four, spelled};
+ghost use Rattle.cil_layout.specs.Heaps.{name_entry, padded};
+ghost use Rattle.cil_layout.specs.Text.{compressed, blob_entry, text_bytes};
+
+use mf_types::fault::NoMemory;
+
+/// A number of two bytes, the lowest first.
+pub fn push_two(out: &mut Vec<u8>, number: u16) -> Result<(), NoMemory>
+    ensures { OnOk result (out.new.items ≡ out.old.items ++ two number) }
+{
+    out.extend_from_slice(&number.to_le_bytes())?;
+    Ok(())
+}
+
+/// A number of four bytes, the lowest first.
+pub fn push_four(out: &mut Vec<u8>, number: u32) -> Result<(), NoMemory>
+    ensures { OnOk result (out.new.items ≡ out.old.items ++ four number) }
+{
+    out.extend_from_slice(&number.to_le_bytes())?;
+    Ok(())
+}
+
+/// Bytes as they are.
+pub fn push_bytes(out: &mut Vec<u8>, bytes: &[u8]) -> Result<(), NoMemory>
+    ensures { OnOk result (out.new.items ≡ out.old.items ++ bytes.now) }
+{
+    out.extend_from_slice(bytes)?;
+    Ok(())
+}
+
+/// So many zeros.
+#[tactic(auto, using(crate::proofs::Pieces::zeros_more))]
+pub fn push_zeros(out: &mut Vec<u8>, count: usize) -> Result<(), NoMemory>
+    ensures { OnOk result (out.new.items ≡ out.old.items ++ replicate count 0) }
+{
+    for _ in 0..count {
+        out.push(0)?;
+    }
+    Ok(())
+}
+
+/// Zeros up to a multiple of 4.
+pub fn pad(out: &mut Vec<u8>) -> Result<(), NoMemory>
+    ensures { OnOk result (out.new.items ≡ padded out.old.items) }
+{
+    let past = out.len() % 4;
+    push_zeros(out, if past == 0 { 0 } else { 4 - past })
+}
+
+/// Bytes with zeros up to a multiple of 4.
+pub fn push_padded(out: &mut Vec<u8>, bytes: &[u8]) -> Result<(), NoMemory>
+    ensures { OnOk result (out.new.items ≡ out.old.items ++ padded bytes.now) }
+{
+    push_bytes(out, bytes)?;
+    let past = bytes.len() % 4;
+    push_zeros(out, if past == 0 { 0 } else { 4 - past })
+}
+
+/// The entry of a name.
+pub fn push_name(out: &mut Vec<u8>, name: &str) -> Result<(), NoMemory>
+    ensures { OnOk result (out.new.items ≡ out.old.items ++ name_entry name.now) }
+{
+    let bytes = name.as_bytes();
+    match bytes {
+        [] => Ok(()),
+        [_, ..] => {
+            push_bytes(out, bytes)?;
+            out.push(0)?;
+            Ok(())
+        }
+    }
+}
+
+/// A compressed number.
+pub fn push_compressed(out: &mut Vec<u8>, number: u32) -> Result<(), NoMemory>
+    requires { number < 2 ^ 29 }
+    ensures { OnOk result (out.new.items ≡ out.old.items ++ compressed number) }
+{
+    if number < 128 {
+        out.push(number as u8)?;
+    } else if number < 16_384 {
+        push_bytes(out, &[(128 + number / 256) as u8, (number % 256) as u8])?;
+    } else {
+        let bytes = [
+            (192 + number / 0x0100_0000) as u8,
+            (number / 0x0001_0000 % 256) as u8,
+            (number / 256 % 256) as u8,
+            (number % 256) as u8,
+        ];
+        push_bytes(out, &bytes)?;
+    }
+    Ok(())
+}
+
+/// The entry of a blob.
+pub fn push_blob(out: &mut Vec<u8>, bytes: &[u8]) -> Result<(), NoMemory>
+    requires { length bytes.now < 2 ^ 29 }
+    ensures { OnOk result (out.new.items ≡ out.old.items ++ blob_entry bytes.now) }
+{
+    push_compressed(out, bytes.len() as u32)?;
+    push_bytes(out, bytes)
+}
+
+/// Numbers in so many bytes each.
+pub fn push_numbers(out: &mut Vec<u8>, widths: &[u8], numbers: &[u32]) -> Result<(), NoMemory>
+    requires { length widths.now ≡ length numbers.now }
+    ensures { OnOk result (out.new.items ≡ out.old.items ++ spelled widths.now numbers.now) }
+{
+    if let ([width, widths @ ..], [number, numbers @ ..]) = (widths, numbers) {
+        let bytes = number.to_le_bytes();
+        let count = usize::from(*width).min(4);
+        push_bytes(out, &bytes[..count])?;
+        push_numbers(out, widths, numbers)?;
+    }
+    Ok(())
+}
