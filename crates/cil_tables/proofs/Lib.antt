@@ -1,5 +1,7 @@
 pub mod Texts
 pub mod StreamLaws
+pub mod HeaderLaws
+pub mod NotedLaws
 pub mod SchemaLaws
 pub mod Ranges
 pub mod LayoutLaws

@@ -1,8 +1,6 @@
 -- Stream headers.
 use Rattle.std.proofs.Common.{◌≡◌, ℕ, suc, ◌+◌, ◌*◌, ◌/◌, Bool, true, false, cond, ◌≤◌, ◌&&◌, subst, Some, None, List, [], ◌∷◌, ◌++◌, append_assoc, ◌<◌, ◌-◌, length, take, drop, ap, sym, ◌∙◌, refl, arith}
-use Rattle.std.specs.Prelude.{is_none, not, ◌||◌}
-use Rattle.std.specs.Option.{option_map}
-use Rattle.std.specs.List.{position_or_len, find, list_any}
+use Rattle.std.specs.List.{position_or_len, find}
 use Rattle.std.proofs.lemmas.List.{take_all}
 use Rattle.file_tables.specs.Heaps.{before_zero}
 use Rattle.std.proofs.lemmas.Bool.{leb-true}
@@ -70,11 +68,6 @@ checked_more region first k at end checked kept e =
       split = λ n. let same : k + 1 + n ≡ k + suc n = omega arith in rw (same, one, e) (checked.split (suc n) ∙ sym (append_assoc (streams.streams_from region first k) (streams.stream_at region at ∷ []) (streams.streams_from region (streams.header_end (streams.stream_at region at)) n)));
       rules = λ n. let same : k + 1 + n ≡ k + suc n = omega arith in rw (same, one, e) (checked.rules (suc n) ∙ rw kept refl);
     }
-
--- the search finds nothing where no stream has the name
-pub none_before : {X Y : Type 0} (f : X → Y) (p : X → Bool) (xs : List X) → is_none (option_map f (find p xs)) ≡ not (list_any p xs)
-none_before f p [] = refl
-none_before f p (x ∷ xs) = elim (p x) as (λ b. is_none (option_map f (cond b (Some x) (find p xs))) ≡ not (b || list_any p xs)) [ true ↦ refl | false ↦ none_before f p xs ]
 
 pub all_kept : (region : List ℕ) (first k count at : ℕ) → CheckedTo region first k at → k ≡ count → first_broken (streams.rules_of_streams region [] (streams.streams_from region first count)) ≡ None
 unfolding streams.streams_from streams.rules_of_streams

@@ -5,3 +5,4 @@ pub mod Shape
 pub mod Layout
 pub mod Inside
 pub mod IndexOf
+pub mod Headers

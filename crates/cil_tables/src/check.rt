@@ -9,7 +9,7 @@ ghost use Rattle.file_tables.specs.Metadata as metadata;
 use crate::fault::{broken, broken_row};
 use crate::row::Row;
 use crate::tables::Tables;
-use crate::text_index::TextIndex;
+use crate::text_index::{PLACES, TextIndex};
 use file_tables::schema::{Coded, Column, LOOKED_AT, NO_TABLE, columns};
 use mf_types::fault::Fault;
 
@@ -134,13 +134,15 @@ fn check_tables(tables: &Tables<'_>, texts: &TextIndex<'_>) -> Result<(), Fault>
     Ok(())
 }
 
-/// The first broken rule of 12 and 13.
+/// The first broken rule of 12 and 13, with a table of 256 KB on the stack.
+#[inline(never)]
 #[tactic(auto, using(crate::proofs::CheckLaws::broken_rows, crate::proofs::CheckLaws::broken_count, crate::proofs::CheckLaws::all_kept), unfolding(file_tables::specs::Metadata::has_one_assembly))]
 pub fn check_rows(tables: &Tables<'_>) -> Result<(), Fault>
     ensures broken { IfErr result (λ fault. first_broken (metadata.rules_of_tables tables.now) ≡ Some fault) }
     ensures kept { OnOk result (first_broken (metadata.rules_of_tables tables.now) ≡ None) }
 {
-    let texts = TextIndex::new(tables.strings());
+    let mut known = [false; PLACES];
+    let texts = TextIndex::new(tables.strings(), &mut known);
     check_tables(tables, &texts)?;
     if tables.rows(0x20) != 1 {
         return Err(broken(13, 0));

@@ -4,6 +4,7 @@
 
 mod check;
 mod fault;
+mod headers;
 mod heap;
 mod layout;
 mod root;

@@ -1,11 +1,10 @@
 //! The metadata root and its stream headers (ECMA-335 II.24.2.1, II.24.2.2).
 
-ghost use Rattle.std.specs.Prelude.{◌≡◌, ◌+◌, ◌-◌, ◌*◌, ◌/◌, ◌<◌, ◌≤◌, ◌^◌, length, drop, is_some, IsTrue, [], Some, None, IfErr, IfOk, OnOk, false};
+ghost use Rattle.std.specs.Prelude.{◌≡◌, ◌+◌, ◌-◌, ◌*◌, ◌/◌, ◌<◌, ◌≤◌, ◌^◌, length, drop, IfErr, IfOk, false};
 ghost use Rattle.std.specs.Option.{option_map};
-ghost use Rattle.std.specs.List.{find, list_any};
-ghost use Rattle.file_tables.specs.Heaps.{before_zero};
+ghost use Rattle.std.specs.List.{find};
 ghost use Rattle.file_tables.specs.Streams as streams;
-ghost use Rattle.file_tables.specs.Rules.{rule_at, first_broken};
+ghost use Rattle.file_tables.specs.Rules.{rule_at};
 ghost use Rattle.cil_tables.specs.Place.{place_of, HasRoot};
 
 use crate::fault::broken;
@@ -22,7 +21,7 @@ pub struct Stream {
 
 /// The name in the stream header at an offset.
 #[tactic(auto, using(crate::proofs::StreamLaws::name_is, crate::proofs::StreamLaws::name_is_all))]
-fn name_at(region: &[u8], at: usize) -> &[u8]
+pub fn name_at(region: &[u8], at: usize) -> &[u8]
     requires { at < 2 ^ 48 }
     ensures name { result.now ≡ (streams.stream_at region.now at).name }
     ensures within { length result.now ≤ length region.now - (at + 8) }
@@ -36,7 +35,7 @@ fn name_at(region: &[u8], at: usize) -> &[u8]
 
 /// Where the next header begins, behind one with a name of that length.
 #[tactic(auto, unfolding(file_tables::specs::Streams::header_end))]
-fn next_header(at: usize, name: &[u8]) -> usize
+pub fn next_header(at: usize, name: &[u8]) -> usize
     requires { at < 2 ^ 48 }
     ensures next { result ≡ at + 12 + 4 * (length name.now / 4) }
     ensures bound { result ≤ at + 12 + length name.now }
@@ -91,41 +90,6 @@ pub fn read_root(region: &[u8]) -> Result<Headers, Fault>
         first: after + 4,
         count: two(region, after + 2),
     })
-}
-
-/// Rule 9 for the header at an offset, behind those of so many streams.
-#[tactic(auto, using(crate::proofs::StreamLaws::none_before), unfolding(file_tables::specs::Streams::is_stream, file_tables::specs::Streams::stream_at, file_tables::specs::Streams::header_end))]
-fn keeps_header(region: &[u8], first: usize, count: u16, at: usize, name: &[u8]) -> bool
-    requires small { length region.now < 2 ^ 32 }
-    requires begins { first ≤ length region.now }
-    requires place { at ≤ length region.now }
-    requires named { name.now ≡ (streams.stream_at region.now at).name }
-    ensures answer { result ≡ streams.is_stream region.now (streams.streams_from region.now first count) (streams.stream_at region.now at) }
-    ensures within { IsTrue result → at + 12 + 4 * (length name.now / 4) ≤ length region.now }
-{
-    let end = four(region, at) as usize + four(region, at + 4) as usize;
-    if next_header(at, name) > region.len() || name.len() > 32 || end > region.len() {
-        return false;
-    }
-    find_stream(region, first, count, name).is_none()
-}
-
-/// The first broken rule 9 among the stream headers.
-pub fn check_headers(region: &[u8], headers: &Headers) -> Result<(), Fault>
-    requires small { length region.now < 2 ^ 32 }
-    requires root { HasRoot region.now headers.now }
-    ensures broken { IfErr result (λ fault. first_broken (streams.rules_of_streams region.now [] (streams.streams_of region.now)) ≡ Some fault) }
-    ensures kept { OnOk result (first_broken (streams.rules_of_streams region.now [] (streams.streams_of region.now)) ≡ None) }
-{
-    let mut at = headers.first;
-    for k in 0..headers.count {
-        let name = name_at(region, at);
-        if !keeps_header(region, headers.first, k, at, name) {
-            return Err(broken(9, at));
-        }
-        at = next_header(at, name);
-    }
-    Ok(())
 }
 
 /// The stream of a name.

@@ -9,9 +9,10 @@ ghost use Rattle.cil_tables.specs.Place.{HasRoot};
 ghost use Rattle.cil_tables.specs.Layout.{IsLayout};
 
 use crate::check::check_rows;
+use crate::headers::check_headers;
 use crate::heap;
 use crate::layout::{Layout, read_layout};
-use crate::root::{Headers, check_headers, read_root, stream_named};
+use crate::root::{Headers, read_root, stream_named};
 use crate::row::{Row, read_row};
 use crate::shape::count;
 use crate::view::range;

@@ -1,16 +1,19 @@
 //! Where the texts of `#Strings` begin, without going over a long text again for each of many indexes into it.
 
-ghost use Rattle.std.specs.Prelude.{◌≡◌, ℕ, ◌+◌, ◌*◌, ◌<◌, ◌≤◌, ◌^◌, length, true, false, slice_index, ◌≢◌, MatchOption, MatchBool};
+ghost use Rattle.std.specs.Prelude.{◌≡◌, ℕ, ◌+◌, ◌*◌, ◌<◌, ◌≤◌, ◌^◌, length, true, false, slice_index, ◌≢◌, MatchOption, MatchBool, replicate};
 ghost use Rattle.cil_tables.specs.Texts.{begins, StepsTo, EndsChar, KnowsFrom};
 
 use crate::heap::zero_place;
 use std::marker::Model;
 
-/// How many blocks the heap falls into.
-const BLOCKS: usize = 1024;
+/// The most blocks that a heap falls into.
+const BLOCKS: usize = 65536;
 
-/// The first four places of each block, since a character has at most four bytes.
-const PLACES: usize = 4096;
+/// The least bytes of a block; only in a heap of 4 MiB or more they are longer.
+const SHORTEST: usize = 64;
+
+/// How many places are told of: the first four of each block, since a character has at most four bytes.
+pub const PLACES: usize = 4 * BLOCKS;
 
 /// The bytes from `at` to `end` have no zero byte and are UTF-8.
 fn is_char(heap: &[u8], at: usize, end: usize) -> bool
@@ -28,16 +31,14 @@ fn is_char(heap: &[u8], at: usize, end: usize) -> bool
     }
 }
 
-/// Behind the character at an offset where no zero byte stands; none where no text begins there.
-fn next_place(heap: &[u8], at: usize) -> Option<usize>
+/// Behind the shortest run of bytes at an offset that is a character; none where no text begins there.
+#[inline(never)]
+fn next_char(heap: &[u8], at: usize) -> Option<usize>
     requires inside { at < length heap.now }
     requires small { length heap.now < 2 ^ 32 }
     requires start { slice_index heap.now at ≢ 0 }
     ensures { MatchOption result (begins heap.now at ≡ false) (StepsTo heap.now at) }
 {
-    if heap[at] < 128 {
-        return Some(at + 1);
-    }
     for n in 0..4usize {
         let end = at + n + 1;
         if end <= heap.len() && is_char(heap, at, end) {
@@ -47,13 +48,27 @@ fn next_place(heap: &[u8], at: usize) -> Option<usize>
     None
 }
 
+/// Behind the character at an offset where no zero byte stands; none where no text begins there.
+#[inline(always)]
+fn next_place(heap: &[u8], at: usize) -> Option<usize>
+    requires inside { at < length heap.now }
+    requires small { length heap.now < 2 ^ 32 }
+    requires start { slice_index heap.now at ≢ 0 }
+    ensures { MatchOption result (begins heap.now at ≡ false) (StepsTo heap.now at) }
+{
+    if heap[at] < 128 {
+        return Some(at + 1);
+    }
+    next_char(heap, at)
+}
+
 /// A heap with what is known of the first places of each of its blocks: whether a text begins there. Contracts see it
 /// as the heap.
 #[derive(Drop)]
 pub struct TextIndex<'a> {
     heap: &'a [u8],
     block: usize,
-    known: [bool; PLACES],
+    known: &'a [bool; PLACES],
 }
 
 impl<'a> Model for TextIndex<'a> {
@@ -69,26 +84,30 @@ impl<'a> Model for TextIndex<'a> {
 }
 
 /// Whether a text begins at an offset, by what is known of the places behind its block.
+#[inline(never)]
 fn walk(heap: &[u8], block: usize, known: &[bool; PLACES], number: usize, start: usize) -> bool
     requires small { length heap.now < 2 ^ 32 }
-    requires size { 4 ≤ block }
+    requires size { SHORTEST ≤ block }
     requires bound { block < 2 ^ 32 }
-    requires covers { length heap.now ≤ 1024 * block }
-    requires numbered { number ≤ 1024 }
+    requires covers { length heap.now < BLOCKS * block }
+    requires numbered { number < BLOCKS }
     requires inside { start < (number + 1) * block }
     requires known { KnowsFrom heap.now block known.now (4 * (number + 1)) }
     ensures { result ≡ begins heap.now start }
 {
     let next = (number + 1) * block;
+    let end = next.min(heap.len());
     let mut at = start;
-    while at < next {
-        if at >= heap.len() {
-            return false;
-        }
-        if heap[at] == 0 {
+    while at < end {
+        let byte = heap[at];
+        if byte == 0 {
             return true;
         }
-        match next_place(heap, at) {
+        if byte < 128 {
+            at += 1;
+            continue;
+        }
+        match next_char(heap, at) {
             None => return false,
             Some(place) => at = place,
         }
@@ -99,42 +118,67 @@ fn walk(heap: &[u8], block: usize, known: &[bool; PLACES], number: usize, start:
     known[4 * (number + 1) + (at - next)]
 }
 
-/// What is known of each block, from the last one down.
-fn know(heap: &[u8], block: usize) -> [bool; PLACES]
+/// Whether a text begins at one of the first four places of a block, by what is known of the later places.
+fn walk_on(heap: &[u8], block: usize, known: &[bool; PLACES], number: usize, over: usize) -> bool
     requires small { length heap.now < 2 ^ 32 }
-    requires size { 4 ≤ block }
+    requires size { SHORTEST ≤ block }
     requires bound { block < 2 ^ 32 }
-    requires covers { length heap.now ≤ 1024 * block }
-    ensures { KnowsFrom heap.now block result 0 }
+    requires covers { length heap.now < BLOCKS * block }
+    requires numbered { number < BLOCKS }
+    requires first { over < 4 }
+    requires known { KnowsFrom heap.now block known.now (4 * number + over + 1) }
+    ensures { result ≡ begins heap.now (number * block + over) }
 {
-    let mut known = [false; PLACES];
-    let mut place = PLACES;
+    let at = number * block + over;
+    if at >= heap.len() {
+        return false;
+    }
+    if heap[at] == 0 {
+        return true;
+    }
+    match next_place(heap, at) {
+        None => false,
+        Some(place) => {
+            let behind = over + (place - at);
+            if behind < 4 {
+                known[4 * number + behind]
+            } else {
+                walk(heap, block, known, number, place)
+            }
+        }
+    }
+}
+
+/// Notes what is known of each block, from the last one that the heap reaches down.
+fn know(heap: &[u8], block: usize, known: &mut [bool; PLACES])
+    requires small { length heap.now < 2 ^ 32 }
+    requires size { SHORTEST ≤ block }
+    requires bound { block < 2 ^ 32 }
+    requires covers { length heap.now < BLOCKS * block }
+    requires blank { known.old ≡ replicate PLACES false }
+    ensures { KnowsFrom heap.now block known.new 0 }
+{
+    let mut place = 4 * (heap.len() / block + 1);
     while place > 0 {
         place -= 1;
-        let begins = walk(
-            heap,
-            block,
-            &known,
-            place / 4,
-            place / 4 * block + place % 4,
-        );
+        let begins = walk_on(heap, block, known, place / 4, place % 4);
         known[place] = begins;
     }
-    known
 }
 
 impl<'a> TextIndex<'a> {
-    /// The index of a heap, in time that grows with the heap alone.
-    pub fn new(heap: &'a [u8]) -> TextIndex<'a>
-        requires { length heap.now < 2 ^ 32 }
+    /// The index of a heap, in a blank table that it fills in time that grows with the heap alone.
+    pub fn new(heap: &'a [u8], known: &'a mut [bool; PLACES]) -> TextIndex<'a>
+        requires small { length heap.now < 2 ^ 32 }
+        requires blank { known.old ≡ replicate PLACES false }
         ensures { result ≡ heap.now }
     {
-        let block = heap.len() / BLOCKS + 4;
-        let known = know(heap, block);
+        let block = SHORTEST.max(heap.len() / BLOCKS + 1);
+        know(heap, block, known);
         TextIndex { heap, block, known }
     }
 
-    /// Whether a text begins at an offset, in time that grows with a block alone.
+    /// Whether a text begins at an offset. It goes over at most one block: 64 bytes in a heap below 4 MiB.
     pub fn begins(&self, at: u32) -> bool
         ensures { result ≡ begins self.now at }
     {
@@ -142,6 +186,6 @@ impl<'a> TextIndex<'a> {
         if at >= self.heap.len() {
             return false;
         }
-        walk(self.heap, self.block, &self.known, at / self.block, at)
+        walk(self.heap, self.block, self.known, at / self.block, at)
     }
 }
