@@ -56,7 +56,7 @@ fn len_of_text(units: u32) -> u32
 }
 
 /// The bytes of a literal's entry; 0 for other items.
-pub fn len_of_literal(item: &Item) -> u32
+fn len_of_literal(item: &Item) -> u32
     requires { literal_len (item_of item.now) ≤ 1000000 }
     ensures { result ≡ literal_len (item_of item.now) }
 {

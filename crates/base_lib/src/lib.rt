@@ -5,5 +5,6 @@ pub mod code;
 pub mod files;
 pub mod items;
 pub mod keys;
+pub mod law;
 pub mod rows;
 pub mod signatures;

@@ -1,7 +1,7 @@
 //! The rows that items ask for.
 
-ghost use Rattle.std.specs.Prelude.{◌≡◌, ◌<◌, ◌≤◌, IfOk, OnOk, IsTrue, ◌%◌, length, sum_by};
-ghost use Rattle.cil_layout.specs.Asked.{rows_of, with_row};
+ghost use Rattle.std.specs.Prelude.{◌≡◌, ℕ, ◌<◌, ◌≤◌, IfOk, OnOk, IsTrue, ◌%◌, length, sum_by};
+ghost use Rattle.cil_layout.specs.Asked.{rows_of, weight_of, with_row};
 ghost use Rattle.cil_layout.specs.declared.rows.Row.TheVariants.{MethodDef as AMethodDef};
 ghost use Rattle.cil_build.specs.Refs.{row_of_ref};
 ghost use Rattle.base_tables.specs.Shape.{item_of, items_of, kinds_of};
@@ -17,7 +17,7 @@ use base_tables::library::VERSION;
 use base_tables::shape::{Entry, Item, Kind, Work};
 use cil_build::build::{Build, BuildRefusal};
 use cil_build::refs::RefRow;
-use cil_layout::rows::{FIELD, METHOD_DEF, STAND_ALONE_SIG, TYPE_DEF};
+use cil_layout::rows::{METHOD_DEF, STAND_ALONE_SIG};
 use mf_types::fault::NoMemory;
 use std::alloc::Global;
 
@@ -72,21 +72,11 @@ fn add_kinds(
     }
 }
 
-/// Whether the texts and lists of an item are short.
-pub fn is_small_item(item: &Item) -> bool
-    ensures { result ≡ is_small item.now }
-{
-    let (_, text, _, _, _, _, (_, _, params), (_, _, locals, lines)) = *item;
-    text.len() <= 100 && params.len() <= 1000 && locals.len() <= 1000 && lines.len() <= 1000
-}
-
 /// Adds a row of one of the smaller tables.
-fn add_small(build: &mut Build, alloc: Global, row: &RefRow<'_>) -> Result<(), BuildRefusal>
+fn add_small(build: &mut Build, alloc: Global, row: &RefRow<'_>) -> Result<(), NoMemory>
+    requires room { (table : ℕ) → rows_of build.old table ≤ 60000 }
     ensures { OnOk result (build.new ≡ with_row build.old (row_of_ref row.now)) }
 {
-    if !build.has_room(row.table()) {
-        return Err(BuildRefusal::Full);
-    }
     let _token = build.add_ref(alloc, row)?;
     Ok(())
 }
@@ -97,29 +87,27 @@ fn add_literal(
     alloc: Global,
     items: &[Item],
     item: &Item,
-) -> Result<(), BuildRefusal>
+) -> Result<(), NoMemory>
+    requires light { weight_of build.old ≤ 4000000 }
+    requires short { length item.now.1.now ≤ 100 }
     ensures { OnOk result (build.new ≡ with_entry (items_of items.now) build.old ALiteral (item_of item.now)) }
 {
     let (_, text, ..) = *item;
     let units = units_of(alloc, text)?;
-    let _text = build.user_text(alloc, units.as_slice())?;
-    Ok(())
+    match build.user_text(alloc, units.as_slice()) {
+        Ok(_text) => Ok(()),
+        Err(BuildRefusal::NoMemory) => Err(NoMemory),
+        Err(BuildRefusal::Full) => unreachable!(),
+    }
 }
 
 /// Adds a type.
-fn add_class(
-    build: &mut Build,
-    alloc: Global,
-    items: &[Item],
-    item: &Item,
-) -> Result<(), BuildRefusal>
+fn add_class(build: &mut Build, alloc: Global, items: &[Item], item: &Item) -> Result<(), NoMemory>
     requires few { length items.now ≤ 60000 }
     requires short { sum_by literal_len (items_of items.now) ≤ 1000000 }
+    requires room { (table : ℕ) → rows_of build.old table ≤ 60000 }
     ensures { OnOk result (build.new ≡ with_entry (items_of items.now) build.old ATypeDef (item_of item.now)) }
 {
-    if !build.has_room(TYPE_DEF) {
-        return Err(BuildRefusal::Full);
-    }
     let (_, _, name, namespace, base, flags, ..) = *item;
     let extends = token_for(items, base);
     let _class = build.add_type(alloc, flags, namespace, name, extends)?;
@@ -127,19 +115,12 @@ fn add_class(
 }
 
 /// Adds a field.
-fn add_field(
-    build: &mut Build,
-    alloc: Global,
-    items: &[Item],
-    item: &Item,
-) -> Result<(), BuildRefusal>
+fn add_field(build: &mut Build, alloc: Global, items: &[Item], item: &Item) -> Result<(), NoMemory>
     requires few { length items.now ≤ 60000 }
     requires short { sum_by literal_len (items_of items.now) ≤ 1000000 }
+    requires room { (table : ℕ) → rows_of build.old table ≤ 60000 }
     ensures { OnOk result (build.new ≡ with_entry (items_of items.now) build.old AField (item_of item.now)) }
 {
-    if !build.has_room(FIELD) {
-        return Err(BuildRefusal::Full);
-    }
     let (_, _, name, _, _, flags, (_, kind, _), _) = *item;
     let sig = field_bytes(alloc, items, &kind)?;
     let flags = (flags % 0x0001_0000) as u16;
@@ -154,12 +135,10 @@ fn add_row(
     item: &Item,
     sig: &[u8],
     code: &[u8],
-) -> Result<(), BuildRefusal>
+) -> Result<(), NoMemory>
+    requires room { rows_of build.old METHOD_DEF ≤ 60001 }
     ensures { OnOk result (build.new ≡ with_row build.old (AMethodDef (record { impl_flags = impl_flags item.now.7.0; flags = item.now.5 % 65536; name = item.now.2.now; signature = sig.now; body = code.now }))) }
 {
-    if !build.has_room(METHOD_DEF) {
-        return Err(BuildRefusal::Full);
-    }
     let (_, _, name, _, _, flags, _, (work, ..)) = *item;
     let flags = (flags % 0x0001_0000) as u16;
     let _method = build.add_method(alloc, flags_of(work), flags, name, sig, code)?;
@@ -167,24 +146,18 @@ fn add_row(
 }
 
 /// Adds a method.
-fn add_method(
-    build: &mut Build,
-    alloc: Global,
-    items: &[Item],
-    item: &Item,
-) -> Result<(), BuildRefusal>
+#[tactic(auto, using(crate::proofs::Room::kinds_room))]
+fn add_method(build: &mut Build, alloc: Global, items: &[Item], item: &Item) -> Result<(), NoMemory>
     requires few { length items.now ≤ 60000 }
     requires short { sum_by literal_len (items_of items.now) ≤ 1000000 }
     requires small { IsTrue (is_small item.now) }
+    requires room { (table : ℕ) → rows_of build.old table ≤ 60000 }
     ensures { OnOk result (build.new ≡ with_entry (items_of items.now) build.old AMethod (item_of item.now)) }
 {
     let (_, _, _, _, _, _, signature, (work, max_stack, locals, lines)) = *item;
     let sig = method_bytes(alloc, items, &signature)?;
     match work {
         Work::Code => {
-            if !build.has_room(STAND_ALONE_SIG) {
-                return Err(BuildRefusal::Full);
-            }
             let token = add_kinds(build, alloc, items, locals)?;
             let code = body(alloc, items, max_stack, token, lines)?;
             add_row(build, alloc, item, sig.as_slice(), code.as_slice())
@@ -200,9 +173,10 @@ fn add_interface(
     alloc: Global,
     items: &[Item],
     item: &Item,
-) -> Result<(), BuildRefusal>
+) -> Result<(), NoMemory>
     requires few { length items.now ≤ 60000 }
     requires short { sum_by literal_len (items_of items.now) ≤ 1000000 }
+    requires room { (table : ℕ) → rows_of build.old table ≤ 60000 }
     ensures { OnOk result (build.new ≡ with_entry (items_of items.now) build.old AnImplements (item_of item.now)) }
 {
     let (_, _, name, _, base, ..) = *item;
@@ -217,9 +191,10 @@ fn add_class_of(
     alloc: Global,
     items: &[Item],
     item: &Item,
-) -> Result<(), BuildRefusal>
+) -> Result<(), NoMemory>
     requires few { length items.now ≤ 60000 }
     requires short { sum_by literal_len (items_of items.now) ≤ 1000000 }
+    requires room { (table : ℕ) → rows_of build.old table ≤ 60000 }
     ensures { OnOk result (build.new ≡ with_entry (items_of items.now) build.old ATypeOf (item_of item.now)) }
 {
     let (_, _, name, namespace, base, ..) = *item;
@@ -238,10 +213,11 @@ fn add_method_of(
     alloc: Global,
     items: &[Item],
     item: &Item,
-) -> Result<(), BuildRefusal>
+) -> Result<(), NoMemory>
     requires few { length items.now ≤ 60000 }
     requires short { sum_by literal_len (items_of items.now) ≤ 1000000 }
     requires small { IsTrue (is_small item.now) }
+    requires room { (table : ℕ) → rows_of build.old table ≤ 60000 }
     ensures { OnOk result (build.new ≡ with_entry (items_of items.now) build.old AMethodOf (item_of item.now)) }
 {
     let (_, _, name, _, base, _, signature, _) = *item;
@@ -262,10 +238,12 @@ pub fn add_item(
     alloc: Global,
     items: &[Item],
     item: &Item,
-) -> Result<(), BuildRefusal>
+) -> Result<(), NoMemory>
     requires few { length items.now ≤ 60000 }
     requires short { sum_by literal_len (items_of items.now) ≤ 1000000 }
     requires small { IsTrue (is_small item.now) }
+    requires room { (table : ℕ) → rows_of build.old table ≤ 60000 }
+    requires light { weight_of build.old ≤ 4000000 }
     ensures { OnOk result (build.new ≡ with_item (items_of items.now) build.old (item_of item.now)) }
 {
     let (entry, _, name, ..) = *item;
