@@ -8,7 +8,7 @@ use Rattle.cil_sig.specs.declared.sig.MethodSig.{MethodSig}
 use Rattle.cil_sig.specs.declared.reading.Slot.{Slot}
 use Rattle.cil_sig.specs.declared.reading.Slot.TheVariants.{Parameter, Local}
 use Rattle.cil_sig.specs.declared.elements.TheConstants.{VOID, POINTER, ARRAY, MAX_COUNT, FIELD, LOCALS, STATIC_METHOD, INSTANCE_METHOD}
-use Rattle.cil_sig.specs.Compressed.{compressed_at, second_byte, three_bytes}
+use Rattle.file_tables.specs.Compressed.{compressed_at, second_byte, three_bytes}
 use Rattle.cil_sig.specs.Elements.{element_of, names_type}
 use Rattle.cil_sig.specs.Reading.{◌>>=◌, Part, no_case, number_at, count_at, token_at, name_at, element_at, brackets, bracketed, bracketed_at, type_at, pointer_at, parameter_at, no_value, result_at, slot_at, slots_at, behind, this_at, alone, whole_type, whole_field, whole_spec, whole_locals, whole_method}
 use Rattle.cil_sig.proofs.Fronts.{brackets_fit}

@@ -1,9 +1,10 @@
 -- A part that is read is the part that is spelled, and what is spelled is read again: numbers and tokens.
-use Rattle.std.proofs.Common.{◌≡◌, ℕ, ◌+◌, ◌-◌, ◌*◌, ◌%◌, ◌^◌, Bool, true, false, cond, ltb, List, [], ◌∷◌, ◌++◌, length, Some, None, Ok, Err, refl, subst, arith}
+use Rattle.std.proofs.Common.{◌≡◌, ℕ, ◌+◌, ◌-◌, ◌*◌, ◌%◌, ◌^◌, Bool, true, false, cond, ltb, List, [], ◌∷◌, ◌++◌, length, Some, None, Ok, Err, refl, subst}
 use Rattle.std.specs.Option.{ok_or}
 use Rattle.std.proofs.lemmas.Bool.{ltb-true, ltb-false, lt-ltb, le-ltb}
 use Rattle.cil_sig.specs.declared.elements.TheConstants.{MAX_COUNT}
-use Rattle.cil_sig.specs.Compressed.{IsCompressed, compressed_at, second_byte, three_bytes}
+use Rattle.file_tables.specs.Compressed.{IsCompressed, compressed_at, second_byte, three_bytes}
+use Rattle.file_tables.proofs.CompressedLaws.{compressed_again}
 use Rattle.cil_sig.specs.Reading.{◌>>=◌, Part, no_case, number_at, count_at, token_at}
 use Rattle.cil_sig.specs.Spelling.{IsToken, IsCount}
 
@@ -50,22 +51,8 @@ number_takes [] x e = absurd cc
 number_takes (a ∷ rest) x e = form_takes _ _ _ a rest (length (a ∷ rest)) x refl refl refl e
 
 pub number_again : (text rest : List ℕ) (n : ℕ) → IsCompressed text n → number_at (text ++ rest) ≡ Ok (n, rest)
-unfolding number_at compressed_at
-number_again [] rest n is = absurd is
-number_again (a ∷ []) rest n is =
-    let one : ltb a 0x80 ≡ true = lt-ltb _ _ is.0 in
-    rw (one, is.1) refl
-number_again (a ∷ b ∷ []) rest n is =
-    let one : ltb a 0x80 ≡ false = le-ltb _ _ is.0 in
-    let two : ltb a 0xC0 ≡ true = lt-ltb _ _ is.1 in
-    rw (one, two, is.2) refl
-number_again (a ∷ b ∷ c ∷ []) rest n is = absurd is
-number_again (a ∷ b ∷ c ∷ d ∷ []) rest n is =
-    let one : ltb a 0x80 ≡ false = le-ltb _ _ (omega arith) in
-    let two : ltb a 0xC0 ≡ false = le-ltb _ _ is.0 in
-    let four : ltb a 0xE0 ≡ true = lt-ltb _ _ is.1 in
-    rw (one, two, four, is.2) refl
-number_again (a ∷ b ∷ c ∷ d ∷ e ∷ more) rest n is = absurd is
+unfolding number_at
+number_again text rest n is = rw (compressed_again text rest n is) refl
 
 pub count_takes : (bytes : List ℕ) (x : ℕ × List ℕ) → count_at bytes ≡ Ok x → Takes IsCount bytes x
 unfolding count_at

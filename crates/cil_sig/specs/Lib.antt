@@ -1,4 +1,3 @@
-pub mod Compressed
 pub mod Elements
 pub mod Reading
 pub mod Spelling

@@ -11,7 +11,7 @@ use Rattle.cil_sig.specs.declared.sig.SigFault.TheVariants.{Bad, NoMemory}
 use Rattle.cil_sig.specs.declared.reading.Slot.{Slot}
 use Rattle.cil_sig.specs.declared.reading.Slot.TheVariants.{Parameter, Local}
 use Rattle.cil_sig.specs.declared.elements.TheConstants.{VOID, POINTER, ARRAY, MAX_RANKS, MAX_COUNT, FIELD, LOCALS, STATIC_METHOD, INSTANCE_METHOD}
-use Rattle.cil_sig.specs.Compressed.{compressed_at}
+use Rattle.file_tables.specs.Compressed.{compressed_at}
 use Rattle.cil_sig.specs.Elements.{element_of, names_type}
 
 -- A part of a signature: its value, or how many bytes are left where the grammar has no case.

@@ -4,7 +4,7 @@ use Rattle.mf_types.specs.declared.elem.Elem.{Elem}
 use Rattle.cil_sig.specs.declared.sig.SigType.{SigType}
 use Rattle.cil_sig.specs.declared.sig.MethodSig.{MethodSig}
 use Rattle.cil_sig.specs.declared.elements.TheConstants.{VOID, POINTER, ARRAY, MAX_RANKS, MAX_COUNT, FIELD, LOCALS, STATIC_METHOD, INSTANCE_METHOD}
-use Rattle.cil_sig.specs.Compressed.{IsCompressed}
+use Rattle.file_tables.specs.Compressed.{IsCompressed}
 use Rattle.cil_sig.specs.Elements.{element_of, names_type}
 use Rattle.cil_sig.specs.Reading.{no_value}
 

@@ -1,7 +1,6 @@
 //! Signatures of methods, fields, locals and array types (ECMA-335 II.23.2).
 #![tactic(auto)]
 
-pub mod compressed;
 pub mod elements;
 pub mod places;
 mod reading;

@@ -4,12 +4,12 @@ ghost use Rattle.std.specs.Prelude.{◌≡◌, List, Result, Ok, Err, length};
 ghost use Rattle.cil_sig.specs.Reading.{number_at, count_at, token_at, name_at, element_at, brackets, type_at, parameter_at, result_at, slot_at, slots_at, behind, this_at, alone};
 ghost use Rattle.cil_sig.specs.Seen.{Gives, Reaches};
 
-use crate::compressed::compressed;
 use crate::elements::{
     ARRAY, INSTANCE_METHOD, MAX_COUNT, MAX_RANKS, POINTER, STATIC_METHOD, VOID, element, is_named,
 };
 use crate::sig::SigType;
 use crate::stop::{NoCase, Stop};
+use file_tables::compressed::compressed;
 use mf_types::elem::Elem;
 use std::alloc::Global;
 

@@ -1,4 +1,3 @@
-pub mod Seen
 pub mod Texts
 pub mod Place
 pub mod Shape

@@ -1,71 +1,30 @@
 //! The entries of the heaps (ECMA-335 II.24.2.3, II.24.2.4).
 
-ghost use Rattle.std.specs.Prelude.{◌≡◌, ◌<◌, ◌^◌, length, MatchOption};
+ghost use Rattle.std.specs.Prelude.{◌≡◌, length, MatchOption};
 ghost use Rattle.std.specs.List.{position_or_len};
-ghost use Rattle.std.specs.Option.{option_copied, option_map};
+ghost use Rattle.std.specs.Option.{option_copied};
 ghost use Rattle.file_tables.specs.Heaps as heaps;
-ghost use Rattle.cil_tables.specs.Seen.{spelled};
 ghost use Rattle.cil_tables.specs.Texts.{is_zero, IsFirstZero};
 
 use crate::view::rest;
-
-/// A compressed number, and how many bytes spell it.
-#[derive(Clone, Copy)]
-pub struct Compressed {
-    pub number: u32,
-    pub len: u8,
-}
-
-/// The compressed number at an offset; the first bits of its first byte tell its form.
-#[tactic(auto, unfolding(file_tables::specs::Heaps::compressed_at))]
-pub fn compressed_number(heap: &[u8], at: usize) -> Option<Compressed>
-    requires { at < 2 ^ 32 }
-    ensures { option_map spelled result ≡ heaps.compressed_at heap.now at }
-{
-    if at >= heap.len() {
-        return None;
-    }
-    let first = heap[at] as u32;
-    if first < 0x80 {
-        return Some(Compressed {
-            number: first,
-            len: 1,
-        });
-    }
-    if first < 0xC0 {
-        if at + 2 > heap.len() {
-            return None;
-        }
-        let number = (first - 0x80) * 256 + heap[at + 1] as u32;
-        return Some(Compressed { number, len: 2 });
-    }
-    if first >= 0xE0 || at + 4 > heap.len() {
-        return None;
-    }
-    let high = (first - 0xC0) * 256 + heap[at + 1] as u32;
-    let number = (high * 256 + heap[at + 2] as u32) * 256 + heap[at + 3] as u32;
-    Some(Compressed { number, len: 4 })
-}
+use file_tables::compressed::compressed;
 
 /// The entry at an offset of `#Blob`.
-#[tactic(auto, unfolding(file_tables::specs::Heaps::blob_at, file_tables::specs::Heaps::counted_at))]
+#[tactic(auto, unfolding(file_tables::specs::Heaps::blob_at, file_tables::specs::Heaps::counted))]
 pub fn blob(heap: &[u8], at: usize) -> Option<&[u8]>
-    requires { at < 2 ^ 32 }
     ensures { option_copied result ≡ heaps.blob_at heap.now at }
 {
-    let count = compressed_number(heap, at)?;
-    let start = at + count.len as usize;
-    let end = start + count.number as usize;
-    if end > heap.len() {
+    let (count, behind) = compressed(rest(heap, at))?;
+    let count = count as usize;
+    if count > behind.len() {
         return None;
     }
-    Some(&heap[start..end])
+    Some(&behind[..count])
 }
 
 /// The literal at an offset of `#US`, without its last byte.
 #[tactic(auto, unfolding(file_tables::specs::Heaps::user_string_at, file_tables::specs::Heaps::units_of))]
 pub fn user_string(heap: &[u8], at: usize) -> Option<&[u8]>
-    requires { at < 2 ^ 32 }
     ensures { option_copied result ≡ heaps.user_string_at heap.now at }
 {
     let entry = blob(heap, at)?;

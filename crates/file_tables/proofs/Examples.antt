@@ -4,7 +4,8 @@ use Rattle.std.specs.Prelude.{codes}
 use lib.Utf8.{encode}
 use Rattle.std.specs.Str.{is_utf8, chars}
 use Rattle.file_tables.specs.Schema.{columns_of, tables_of, tag_bits_of}
-use Rattle.file_tables.specs.Heaps.{before_zero, string_at, compressed_at, counted_at, blob_at, units_of, user_string_at}
+use Rattle.file_tables.specs.Compressed.{compressed_at}
+use Rattle.file_tables.specs.Heaps.{before_zero, string_at, counted, blob_at, units_of, user_string_at}
 use Rattle.file_tables.specs.Tables.{width_of, is_wide_token, widths_of, row_width}
 
 -- a text, the text that ends it, the empty text at the padding, and no text behind the heap
@@ -37,37 +38,37 @@ unfolding string_at before_zero is_utf8 chars encode
 no_text = refl
 
 -- the three forms of a compressed number
-short_number : compressed_at (0x03 ∷ []) 0 ≡ Some (record { number = 3; len = 1 })
+short_number : compressed_at (0x03 ∷ []) ≡ Some (3, [])
 unfolding compressed_at
 short_number = refl
 
-two_bytes : compressed_at (0x80 ∷ 0x80 ∷ []) 0 ≡ Some (record { number = 0x80; len = 2 })
+two_bytes : compressed_at (0x80 ∷ 0x80 ∷ []) ≡ Some (0x80, [])
 unfolding compressed_at
 two_bytes = refl
 
-four_bytes : compressed_at (0xC0 ∷ 0x00 ∷ 0x40 ∷ 0x00 ∷ []) 0 ≡ Some (record { number = 0x4000; len = 4 })
+four_bytes : compressed_at (0xC0 ∷ 0x00 ∷ 0x40 ∷ 0x00 ∷ []) ≡ Some (0x4000, [])
 unfolding compressed_at
 four_bytes = refl
 
-cut_number : compressed_at (0xC0 ∷ 0x00 ∷ 0x40 ∷ []) 0 ≡ None
+cut_number : compressed_at (0xC0 ∷ 0x00 ∷ 0x40 ∷ []) ≡ None
 unfolding compressed_at
 cut_number = refl
 
 -- an entry of a blob, one that passes the heap, a literal of one unit, and one of an even length
 whole_blob : blob_at (0x00 ∷ 0x02 ∷ 0x06 ∷ 0x08 ∷ []) 1 ≡ Some (0x06 ∷ 0x08 ∷ [])
-unfolding blob_at counted_at compressed_at
+unfolding blob_at counted compressed_at
 whole_blob = refl
 
 long_blob : blob_at (0x00 ∷ 0x03 ∷ 0x06 ∷ 0x08 ∷ []) 1 ≡ None
-unfolding blob_at counted_at compressed_at
+unfolding blob_at counted compressed_at
 long_blob = refl
 
 one_unit : user_string_at (0x00 ∷ 0x03 ∷ 0x68 ∷ 0x00 ∷ 0x00 ∷ []) 1 ≡ Some (0x68 ∷ 0x00 ∷ [])
-unfolding user_string_at units_of blob_at counted_at compressed_at
+unfolding user_string_at units_of blob_at counted compressed_at
 one_unit = refl
 
 even_literal : user_string_at (0x02 ∷ 0x68 ∷ 0x00 ∷ []) 0 ≡ None
-unfolding user_string_at units_of blob_at counted_at compressed_at
+unfolding user_string_at units_of blob_at counted compressed_at
 even_literal = refl
 
 -- with narrow indexes a TypeDef row has 14 bytes; a wide `#Strings` makes it 18

@@ -1,2 +1,3 @@
+pub mod CompressedLaws
 mod Examples
 pub mod SchemaLaws

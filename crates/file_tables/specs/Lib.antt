@@ -1,4 +1,5 @@
 pub mod Bytes
+pub mod Compressed
 pub mod Schema
 pub mod Rules
 pub mod Pe

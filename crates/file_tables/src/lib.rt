@@ -3,4 +3,7 @@
 #![tactic(auto)]
 
 pub mod bytes;
+pub mod compressed;
 pub mod schema;
+#[cfg(test)]
+mod tests;

@@ -1,7 +1,7 @@
-//! Compressed numbers (II.23.2).
+//! Compressed numbers (ECMA-335 II.23.2).
 
-ghost use Rattle.std.specs.Prelude.{◌≡◌, ◌^◌, ◌<◌, ℕ, List, ◌++◌, option_map, IfSome};
-ghost use Rattle.cil_sig.specs.Compressed.{IsCompressed, compressed_at};
+ghost use Rattle.std.specs.Prelude.{◌≡◌, option_map};
+ghost use Rattle.file_tables.specs.Compressed.{compressed_at};
 
 /// The compressed number at the front, below 2^29, and the bytes behind it. None where no number stands there whole.
 #[tactic(auto, unfolding(crate::specs::Compressed::compressed_at))]
