@@ -5,9 +5,10 @@
 use anyhow::{Result, bail};
 use arrayvec::ArrayVec;
 use std::env;
+use wire_packets::command::PROGRAM;
 use wire_packets::decoding::{Decoded, decode};
 use wire_packets::encoding::encode;
-use wire_packets::packet::{MAX_PACKET, Packet};
+use wire_packets::packet::{MAX_PACKET, Packet, REQUEST};
 
 /// How many packets came back whole, and the sum of their sequence numbers modulo 2^32.
 #[derive(Clone, Copy)]
@@ -23,10 +24,10 @@ fn request() -> Packet {
         let _ = payload.try_push((byte % 251) as u8);
     }
     Packet {
-        command: 3,
+        command: PROGRAM,
         seq: 0,
         reply_seq: 0,
-        flags: 0,
+        flags: REQUEST,
         payload,
     }
 }
@@ -38,7 +39,7 @@ fn spell_and_read(count: u32) -> Rounds {
     let mut done = Rounds { whole: 0, sum: 0 };
     for number in 0..count {
         packet.seq = (number % 65536) as u16;
-        packet.flags = 0;
+        packet.flags = REQUEST;
         encode(&packet, &mut bytes);
         if let Decoded::Whole(read, _) = decode(bytes.as_slice()) {
             done.whole = done.whole.wrapping_add(1);

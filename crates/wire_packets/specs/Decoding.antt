@@ -2,7 +2,9 @@
 use Rattle.std.specs.Prelude.{◌≡◌, ℕ, ◌+◌, ◌<◌, ◌≤◌, ◌==◌, nat_lt, nat_le, if◌then◌else◌, Bool, ◌&&◌, true, ◌⊎◌, List, length, sum, take, drop}
 use Rattle.std.specs.List.{list_all, zip}
 use Rattle.byteorder.specs.Endian.{little_number}
+use Rattle.wire_packets.specs.declared.encoding.TheConstants.{FIELDS_SIZE}
 use Rattle.wire_packets.specs.declared.packet.Packet.{Packet}
+use Rattle.wire_packets.specs.declared.packet.TheConstants.{HEADER, MAX_PAYLOAD}
 use Rattle.wire_packets.specs.declared.decoding.Decoded.{Decoded}
 use Rattle.wire_packets.specs.declared.decoding.Decoded.TheVariants.{Whole, Short, Damaged}
 use Rattle.wire_packets.specs.Spelling.{signature}
@@ -21,18 +23,18 @@ size bytes = number 4 28 bytes
 
 -- the sum of a header's bytes without those of its check
 abbrev pub header_sum : List ℕ → ℕ
-header_sum bytes = sum (take 8 bytes) + sum (take 20 (drop 12 bytes))
+header_sum bytes = sum (take 8 bytes) + sum (take FIELDS_SIZE (drop 12 bytes))
 
 -- 32 bytes or more begin with a sound header
 unfoldable pub is_sound : List ℕ → Bool
 is_sound bytes =
     agrees bytes && (number 4 8 bytes == header_sum bytes)
     && nat_lt (number 4 24 bytes) 2
-    && nat_le (size bytes) 1024
+    && nat_le (size bytes) MAX_PAYLOAD
 
 -- the payload that a header tells, as far as it is there
 abbrev pub payload : List ℕ → List ℕ
-payload bytes = take (size bytes) (drop 32 bytes)
+payload bytes = take (size bytes) (drop HEADER bytes)
 
 -- the packet that a header and its payload tell
 abbrev pub packet : List ℕ → Packet
@@ -48,22 +50,22 @@ packet bytes =
 -- what stands at the front of the bytes
 unfoldable pub decoded : List ℕ → Decoded
 decoded bytes =
-    if nat_lt (length bytes) 32 then (if agrees bytes then Short else Damaged)
+    if nat_lt (length bytes) HEADER then (if agrees bytes then Short else Damaged)
     else (if is_sound bytes
-    then (if nat_lt (length bytes) (32 + size bytes) then Short
-    else (if sum (payload bytes) == number 4 12 bytes then Whole (packet bytes) (32 + size bytes) else Damaged))
+    then (if nat_lt (length bytes) (HEADER + size bytes) then Short
+    else (if sum (payload bytes) == number 4 12 bytes then Whole (packet bytes) (HEADER + size bytes) else Damaged))
     else Damaged)
 
 -- 32 bytes or more begin with a sound header
 pub record BeginsSound (bytes : List ℕ) : Type 0 where
-  pub long : 32 ≤ length bytes
+  pub long : HEADER ≤ length bytes
   pub agree : agrees bytes ≡ true
   pub check : number 4 8 bytes ≡ header_sum bytes
   pub flags : number 4 24 bytes < 2
-  pub size : size bytes ≤ 1024
+  pub size : size bytes ≤ MAX_PAYLOAD
 
 -- more bytes are needed: there are fewer than a header has and they may begin one, or a sound header stands
 -- there and the payload isn't complete
 abbrev pub IsShort : List ℕ → Type 0
 IsShort bytes =
-    ((length bytes < 32) × (agrees bytes ≡ true)) ⊎ (BeginsSound bytes × (length bytes < 32 + size bytes))
+    ((length bytes < HEADER) × (agrees bytes ≡ true)) ⊎ (BeginsSound bytes × (length bytes < HEADER + size bytes))

@@ -2,6 +2,7 @@
 use Rattle.std.specs.Prelude.{◌≡◌, ℕ, ◌+◌, ◌^◌, ◌<◌, ◌≤◌, List, [], ◌∷◌, ◌++◌, length, sum, slice_index}
 use Rattle.byteorder.specs.Endian.{little_bytes}
 use Rattle.wire_packets.specs.declared.packet.Packet.{Packet}
+use Rattle.wire_packets.specs.declared.packet.TheConstants.{MAX_PAYLOAD}
 
 -- "MSpktV1" and a zero, the first eight bytes of every packet
 abbrev pub signature : List ℕ
@@ -30,7 +31,7 @@ pub record IsPacket (p : Packet) : Type 0 where
   pub seq : p.seq < 2 ^ 16
   pub reply_seq : p.reply_seq < 2 ^ 16
   pub flags : p.flags < 2
-  pub size : length p.payload.items ≤ 1024
+  pub size : length p.payload.items ≤ MAX_PAYLOAD
   pub payload : IsBytes p.payload.items
 
 -- the bytes are the packet's

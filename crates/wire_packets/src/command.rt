@@ -1,4 +1,4 @@
-//! The commands of requests, and the statuses of replies.
+//! The commands of requests, the statuses of replies, and the kinds of ends that a run has.
 
 /// Begins a session; the reply tells the flash's shape.
 pub const OPEN: u32 = 1;
@@ -32,3 +32,18 @@ pub const FLASH_FAILED: u8 = 2;
 
 /// The board has no memory left for it.
 pub const NO_MEMORY: u8 = 3;
+
+/// The run ended by itself, or its memory or steps were spent. All three numbers of the reply are 0.
+pub const ENDED: u8 = 0;
+
+/// The flash holds no set. All three numbers are 0.
+pub const NO_SET: u8 = 9;
+
+/// What the flash holds is no good set. The first number is the place, and the others are 0.
+pub const BAD_SET: u8 = 10;
+
+/// A reference of the set has no definition. The numbers are its assembly, table and row.
+pub const UNRESOLVED: u8 = 11;
+
+/// The run met code that can't be done. The first number is the place, and the others are 0.
+pub const BAD_CODE: u8 = 12;

@@ -50,11 +50,11 @@ pub fn u32_at(bytes: &[u8], at: usize) -> u32
 /// Whether a sound header stands at the front.
 #[tactic(auto, unfolding(crate::specs::Decoding::is_sound))]
 fn begins_sound(bytes: &[u8]) -> bool
-    requires { 32 ≤ length bytes.now }
+    requires { HEADER ≤ length bytes.now }
     ensures value { result ≡ is_sound bytes.now }
-    ensures size { IsTrue result → size bytes.now ≤ 1024 }
+    ensures size { IsTrue result → size bytes.now ≤ MAX_PAYLOAD }
 {
-    let check = byte_sum(&bytes[..8]) + byte_sum(&bytes[12..32]);
+    let check = byte_sum(&bytes[..8]) + byte_sum(&bytes[12..HEADER]);
     may_begin(bytes)
         && u32_at(bytes, 8) == check
         && u32_at(bytes, 24) < 2
@@ -63,9 +63,9 @@ fn begins_sound(bytes: &[u8]) -> bool
 
 /// The packet of a header and its payload.
 fn packet_of(bytes: &[u8]) -> Packet
-    requires long { 32 ≤ length bytes.now }
-    requires fits { size bytes.now ≤ 1024 }
-    requires whole { 32 + size bytes.now ≤ length bytes.now }
+    requires long { HEADER ≤ length bytes.now }
+    requires fits { size bytes.now ≤ MAX_PAYLOAD }
+    requires whole { HEADER + size bytes.now ≤ length bytes.now }
     ensures { result ≡ packet bytes.now }
 {
     let size = u32_at(bytes, 28) as usize;

@@ -4,13 +4,16 @@ ghost use Rattle.std.specs.Prelude.{◌≡◌, ◌+◌, ◌*◌, ◌<◌, ◌≤
 ghost use Rattle.byteorder.specs.Endian.{little_bytes};
 ghost use Rattle.wire_packets.specs.Spelling.{spelling, fields, IsBytes, IsPacket, Spells};
 
-use crate::packet::{Packet, SIGNATURE};
+use crate::packet::{MAX_PACKET, Packet, SIGNATURE};
 use arrayvec::ArrayVec;
 use byteorder::{ByteOrder, LittleEndian};
 
+/// How many bytes of a header stand behind its check.
+const FIELDS_SIZE: usize = 20;
+
 /// The sum of some bytes.
 pub(crate) fn byte_sum(bytes: &[u8]) -> u32
-    requires { length bytes.now ≤ 1056 }
+    requires { length bytes.now ≤ MAX_PACKET }
     ensures value { result ≡ sum bytes.now }
     ensures bound { result ≤ 255 * length bytes.now }
     ensures bytes { IsBytes bytes.now }
@@ -19,8 +22,8 @@ pub(crate) fn byte_sum(bytes: &[u8]) -> u32
 }
 
 /// Appends a number of two bytes.
-fn push_u16(out: &mut ArrayVec<u8, 20>, number: u16)
-    requires { length out.old.items + 2 ≤ 20 }
+fn push_u16(out: &mut ArrayVec<u8, FIELDS_SIZE>, number: u16)
+    requires { length out.old.items + 2 ≤ FIELDS_SIZE }
     ensures { out.new.items ≡ out.old.items ++ little_bytes 2 number }
 {
     let mut bytes = [0u8; 2];
@@ -39,7 +42,7 @@ fn push_u32<const N: usize>(out: &mut ArrayVec<u8, N>, number: u32)
 }
 
 /// The header's bytes 12 to 31.
-fn fields_of(p: &Packet) -> ArrayVec<u8, 20>
+fn fields_of(p: &Packet) -> ArrayVec<u8, FIELDS_SIZE>
     ensures value { result.items ≡ fields p.now }
     ensures packet { p.now.flags < 2 → IsPacket p.now }
 {
@@ -56,7 +59,7 @@ fn fields_of(p: &Packet) -> ArrayVec<u8, 20>
 
 /// Writes a packet, a request or a reply, in place of what `out` held. Nothing is allocated.
 #[tactic(auto, unfolding(crate::specs::Spelling::spelling))]
-pub fn encode(p: &Packet, out: &mut ArrayVec<u8, 1056>)
+pub fn encode(p: &Packet, out: &mut ArrayVec<u8, MAX_PACKET>)
     requires { p.now.flags < 2 }
     ensures written { out.new.items ≡ spelling p.now }
     ensures spells { Spells p.now out.new.items }

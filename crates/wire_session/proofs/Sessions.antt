@@ -4,6 +4,7 @@ use Rattle.std.specs.Prelude.{◌==◌, nat_lt, min, if◌then◌else◌, Option
 use Rattle.std.specs.List.{range_with_len}
 use Rattle.std.proofs.lemmas.Bool.{cases_lt, cases_Bool, lt-ltb, le-ltb, eqb-true, and_parts}
 use Rattle.wire_packets.specs.declared.packet.Packet.{Packet}
+use Rattle.wire_packets.specs.declared.packet.TheConstants.{LAST_SEQ, REQUEST}
 use Rattle.wire_session.specs.declared.act.Act.TheVariants.{Do, Resend, Ignore}
 use Rattle.wire_session.specs.Asking.{Asking, next_request, after_ask, has_turn, after_turns}
 use Rattle.wire_session.specs.Answering.{Answering, act_on, is_do, after_take, after_keep, numbers_done}
@@ -49,8 +50,8 @@ chosen_do false c d is = absurd (cc)
 -- what is done is the next
 done_next : (a : Answering) (p : Packet) → is_do (act_on a p) ≡ true → p.seq ≡ a.last + 1
 done_next a p is =
-    let both = chosen_do (p.flags == 0) ((p.seq == a.last + 1) && nat_lt a.last 65535) ((p.seq == a.last) && nat_lt 0 a.last) is in
-    eqb-true p.seq (a.last + 1) (and_parts (p.seq == a.last + 1) (nat_lt a.last 65535) both).0
+    let both = chosen_do (p.flags == REQUEST) ((p.seq == a.last + 1) && nat_lt a.last LAST_SEQ) ((p.seq == a.last) && nat_lt 0 a.last) is in
+    eqb-true p.seq (a.last + 1) (and_parts (p.seq == a.last + 1) (nat_lt a.last LAST_SEQ) both).0
 
 pub numbers_follow : (reply : Packet → Packet) (a : Answering) (ps : List Packet) → numbers_done reply a ps ≡ range_with_len (a.last + 1) (length (numbers_done reply a ps))
 numbers_follow reply a [] = refl

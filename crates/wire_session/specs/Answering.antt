@@ -1,6 +1,7 @@
 -- The answering end of a session.
 use Rattle.std.specs.Prelude.{◌≡◌, ℕ, ◌+◌, ◌<◌, ◌==◌, ◌&&◌, Bool, true, false, nat_lt, if◌then◌else◌, Option, Some, None, is_none, List, [], ◌∷◌}
 use Rattle.wire_packets.specs.declared.packet.Packet.{Packet}
+use Rattle.wire_packets.specs.declared.packet.TheConstants.{LAST_SEQ, REQUEST}
 use Rattle.wire_session.specs.declared.act.Act.{Act}
 use Rattle.wire_session.specs.declared.act.Act.TheVariants.{Do, Resend, Ignore}
 
@@ -19,8 +20,8 @@ nothing_done = record { last = 0; kept = None; doing = false }
 -- the next request is done, and the last one gets its reply again; every other packet and each reply is ignored
 abbrev pub act_on : Answering → Packet → Act
 act_on a p =
-    if p.flags == 0
-    then (if (p.seq == a.last + 1) && nat_lt a.last 65535 then Do
+    if p.flags == REQUEST
+    then (if (p.seq == a.last + 1) && nat_lt a.last LAST_SEQ then Do
     else (if (p.seq == a.last) && nat_lt 0 a.last then Resend else Ignore))
     else Ignore
 
@@ -38,7 +39,7 @@ after_keep a reply = record { last = a.last + 1; kept = Some reply; doing = fals
 
 -- what holds of every answering end
 pub record IsAnswering (a : Answering) : Type 0 where
-  pub room : a.doing ≡ true → a.last < 65535
+  pub room : a.doing ≡ true → a.last < LAST_SEQ
   pub none : is_none a.kept ≡ (a.last == 0)
 
 -- the numbers of the requests that are done when these packets come, each request done getting some reply

@@ -1,8 +1,10 @@
 -- The asking end of a session.
 use Rattle.std.specs.Prelude.{ℕ, zero, suc, ◌+◌, ◌&&◌, Bool, false, nat_lt, if◌then◌else◌, Option, Some, None, is_some, List}
 use Rattle.wire_packets.specs.declared.packet.Packet.{Packet}
+use Rattle.wire_packets.specs.declared.packet.TheConstants.{REQUEST}
 use Rattle.wire_packets.specs.Made.{packet_with}
 use Rattle.wire_session.specs.Replies.{matches}
+use Rattle.wire_session.specs.declared.asker.TheConstants.{MOST_TURNS}
 
 pub record Asking : Type 0 where
   -- how many requests were asked, which is the number of the last one
@@ -18,7 +20,7 @@ nothing_asked = record { asked = 0; waiting = None; turns = 0 }
 
 -- the next request
 abbrev pub next_request : Asking → ℕ → List ℕ → Packet
-next_request a command payload = packet_with command (a.asked + 1) 0 0 payload
+next_request a command payload = packet_with command (a.asked + 1) 0 REQUEST payload
 
 abbrev pub after_ask : Asking → ℕ → List ℕ → Asking
 after_ask a command payload = record { asked = a.asked + 1; waiting = Some (next_request a command payload); turns = 0 }
@@ -35,9 +37,9 @@ is_awaited a p = waiting_matches a.waiting p
 abbrev pub after_reply : Asking → Packet → Asking
 after_reply a p = record { asked = a.asked; waiting = (if is_awaited a p then None else a.waiting); turns = a.turns }
 
--- a turn is left: a request is open, and fewer than eight turns of it were taken
+-- a turn is left: a request is open, and not all of its turns were taken
 abbrev pub has_turn : Asking → Bool
-has_turn a = is_some a.waiting && nat_lt a.turns 8
+has_turn a = is_some a.waiting && nat_lt a.turns MOST_TURNS
 
 abbrev pub after_turn : Asking → Asking
 after_turn a = record { asked = a.asked; waiting = a.waiting; turns = (if has_turn a then a.turns + 1 else a.turns) }

@@ -8,6 +8,7 @@ use Rattle.wire_session.specs.declared.net.Item.{Item}
 use Rattle.wire_session.specs.declared.net.Item.TheVariants.{Newest, Turn}
 use Rattle.wire_session.specs.declared.net.NetRefusal.{NetRefusal}
 use Rattle.wire_session.specs.declared.net.NetRefusal.TheVariants.{NotNet, NoMemory}
+use Rattle.wire_session.specs.declared.net.TheConstants.{MOST_NUMBER, MOST_ITEMS}
 
 -- the pieces of a word between the bytes c
 abbrev pub pieces : ℕ → List ℕ → List (List ℕ)
@@ -19,7 +20,7 @@ each value [] = Some []
 each value (word ∷ words) = option_and_then (λ x. option_map (λ xs. x ∷ xs) (each value words)) (value word)
 
 abbrev pub packet_number : List ℕ → Option ℕ
-packet_number word = number_up_to 65535 word
+packet_number word = number_up_to MOST_NUMBER word
 
 -- numbers up to 65,535 with `,` between them, or none
 unfoldable pub number_list : List ℕ → Option (List ℕ)
@@ -45,7 +46,7 @@ item word = option_or (newest_turns (pieces 42 word)) (listed_turn (pieces 58 wo
 unfoldable pub script : List ℕ → Option (List Item)
 script word =
     if bytes_eq word (45 ∷ []) then Some []
-    else (if nat_le (length (pieces 59 word)) 4096 then each item (pieces 59 word) else None)
+    else (if nat_le (length (pieces 59 word)) MOST_ITEMS then each item (pieces 59 word) else None)
 
 -- what a function that reads words returned, seen by view, is what the words spell, unless memory ran out
 abbrev pub Gives : {X Y : Type 0} → (X → Y) → Result X NetRefusal → Option Y → Type 0

@@ -5,7 +5,7 @@ ghost use Rattle.wire_session.specs.Answering.{nothing_done, act_on, after_take,
 
 use crate::act::Act;
 use std::marker::Model;
-use wire_packets::packet::Packet;
+use wire_packets::packet::{LAST_SEQ, Packet, REQUEST};
 
 /// The end of a session that answers. It does its requests in the order of their numbers, each once.
 #[derive(Debug, Drop)]
@@ -43,9 +43,9 @@ impl Answerer {
         ensures act { result ≡ act_on self.old p.now }
         ensures after { self.new ≡ after_take self.old p.now }
     {
-        let act = if p.flags != 0 {
+        let act = if p.flags != REQUEST {
             Act::Ignore
-        } else if self.last < u16::MAX && p.seq == self.last + 1 {
+        } else if self.last < LAST_SEQ && p.seq == self.last + 1 {
             Act::Do
         } else if self.last > 0 && p.seq == self.last {
             Act::Resend

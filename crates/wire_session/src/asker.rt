@@ -5,7 +5,7 @@ ghost use Rattle.wire_session.specs.Asking.{nothing_asked, next_request, after_a
 
 use crate::replies::matches;
 use std::marker::Model;
-use wire_packets::packet::Packet;
+use wire_packets::packet::{LAST_SEQ, MAX_PAYLOAD, Packet};
 
 /// 65,535 requests were asked in this session.
 #[derive(Clone, Copy, Debug, PartialEq, Eq)]
@@ -44,13 +44,13 @@ impl Asker {
 
     /// The next request, which is open from now on. `NumbersSpent` comes exactly after 65,535 requests.
     pub fn ask(&mut self, command: u32, payload: &[u8]) -> Result<Packet, NumbersSpent>
-        requires { length payload.now ≤ 1024 }
+        requires { length payload.now ≤ MAX_PAYLOAD }
         ensures request { IfOk result (λ p. p ≡ next_request self.old command payload.now) }
         ensures asked { IfOk result (λ _. self.new ≡ after_ask self.old command payload.now) }
         ensures spent { IsErr result ↔ (65535 ≤ self.old.asked) }
         ensures err { OnErr result (self.new ≡ self.old) }
     {
-        if self.asked == u16::MAX {
+        if self.asked == LAST_SEQ {
             return Err(NumbersSpent);
         }
         let number = self.asked + 1;

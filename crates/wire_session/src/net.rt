@@ -76,6 +76,9 @@ impl<T: Drop> From<AllocFailed<T>> for NetRefusal {
     }
 }
 
+/// The greatest number that a script writes.
+const MOST_NUMBER: u64 = 65_535;
+
 /// The most items that a script has.
 const MOST_ITEMS: usize = 4096;
 
@@ -91,7 +94,7 @@ fn pieces_of(alloc: Global, word: &str, separator: char) -> Result<Vec<&str>, Al
 fn packet_number(word: &str) -> Option<u16>
     ensures { result ≡ packet_number word.now }
 {
-    match number(word, 65_535) {
+    match number(word, MOST_NUMBER) {
         Some(found) => Some(found as u16),
         None => None,
     }

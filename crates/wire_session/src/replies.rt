@@ -4,15 +4,22 @@ ghost use Rattle.std.specs.Prelude.{◌≡◌, ◌<◌, length};
 ghost use Rattle.wire_session.specs.Replies.{flash_shape, numbers_fit, is_run_end, has_asked_length, fits, answers, matches};
 
 use wire_packets::command::{
-    CLOSE, DONE, ERASE, FETCH, FLASH_FAILED, NO_MEMORY, OPEN, PROGRAM, READ, RUN,
+    BAD_CODE, BAD_SET, CLOSE, DONE, ENDED, ERASE, FETCH, FLASH_FAILED, NO_MEMORY, NO_SET, OPEN,
+    PROGRAM, READ, RUN, UNRESOLVED,
 };
 use wire_packets::decoding::u32_at;
-use wire_packets::packet::Packet;
+use wire_packets::packet::{Packet, REPLY};
 
 /// The most bytes that a result text has.
 pub const MAX_TEXT: u32 = 4_259_851;
 
-/// The payload after status 0 of the reply to Open: 32 sectors of 8,192 bytes.
+/// How many bytes tell the end of a run: its kind, three numbers, and the length of the result text.
+pub const END_SIZE: usize = 17;
+
+/// How many bytes a request has that reads or fetches: a place, and how many bytes it asks for.
+pub const RANGE_SIZE: usize = 8;
+
+/// The payload after [`DONE`] of the reply to Open: 32 sectors of 8,192 bytes.
 const FLASH_SHAPE: [u8; 8] = [32, 0, 0, 0, 0, 32, 0, 0];
 
 /// Whether the numbers that a kind of end doesn't use are 0.
@@ -20,9 +27,9 @@ fn numbers_fit(kind: u8, a: u32, b: u32, c: u32) -> bool
     ensures { result ≡ numbers_fit kind a b c }
 {
     match kind {
-        11 => true,
-        10 | 12 => b == 0 && c == 0,
-        0 | 9 => a == 0 && b == 0 && c == 0,
+        UNRESOLVED => true,
+        BAD_SET | BAD_CODE => b == 0 && c == 0,
+        ENDED | NO_SET => a == 0 && b == 0 && c == 0,
         _ => false,
     }
 }
@@ -32,7 +39,7 @@ fn numbers_fit(kind: u8, a: u32, b: u32, c: u32) -> bool
 fn is_run_end(body: &[u8]) -> bool
     ensures { result ≡ is_run_end body.now }
 {
-    body.len() == 17
+    body.len() == END_SIZE
         && numbers_fit(body[0], u32_at(body, 1), u32_at(body, 5), u32_at(body, 9))
         && u32_at(body, 13) <= MAX_TEXT
 }
@@ -42,10 +49,10 @@ fn is_run_end(body: &[u8]) -> bool
 fn has_asked_length(payload: &[u8], body: &[u8]) -> bool
     ensures { result ≡ has_asked_length payload.now body.now }
 {
-    payload.len() == 8 && body.len() == u32_at(payload, 4) as usize
+    payload.len() == RANGE_SIZE && body.len() == u32_at(payload, 4) as usize
 }
 
-/// Whether the bytes follow status 0 in the reply to a request.
+/// Whether the bytes follow [`DONE`] in the reply to a request.
 #[tactic(auto, unfolding(crate::specs::Replies::fits))]
 fn fits(command: u32, payload: &[u8], body: &[u8]) -> bool
     ensures { result ≡ fits command payload.now body.now }
@@ -71,13 +78,13 @@ fn answers(request: &Packet, payload: &[u8]) -> bool
     }
 }
 
-/// Whether a packet is a reply that a request waits for: a reply with its number and command, whose payload is status
-/// 0 with what the command asks for, or status 2 or 3 alone. The packet's own number isn't looked at.
+/// Whether a packet is a reply that a request waits for: a reply with its number and command, whose payload is [`DONE`]
+/// with what the command asks for, or [`FLASH_FAILED`] or [`NO_MEMORY`] alone. The packet's own number isn't looked at.
 #[tactic(auto, unfolding(crate::specs::Replies::matches))]
 pub fn matches(request: &Packet, reply: &Packet) -> bool
     ensures { result ≡ matches request.now reply.now }
 {
-    reply.flags == 1
+    reply.flags == REPLY
         && reply.command == request.command
         && reply.reply_seq == request.seq
         && answers(request, reply.payload.as_slice())

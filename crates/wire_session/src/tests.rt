@@ -9,7 +9,7 @@ use crate::replies::matches;
 use crate::wire::Wire;
 use std::process::Abort;
 use std::test::Fail;
-use wire_packets::packet::Packet;
+use wire_packets::packet::{MAX_PAYLOAD, Packet};
 
 #[test]
 fn numbers_are_spent(rt: HostRuntime) {
@@ -50,20 +50,25 @@ fn requests_are_done_once(rt: HostRuntime) {
 }
 
 fn answered(rt: &impl Abort, command: u32, payload: &[u8], reply: &[u8], wanted: bool) {
-    assert!(rt; payload.len() <= 1024 && reply.len() <= 1024);
+    assert!(rt; payload.len() <= MAX_PAYLOAD && reply.len() <= MAX_PAYLOAD);
     let request = Packet::request(command, 3, payload);
     assert!(rt; matches(&request, &Packet::new(command, 0, 3, 1, reply)) == wanted);
     assert!(rt; !matches(&request, &Packet::new(command, 0, 3, 0, reply)));
 }
 
+/// Commands, statuses and kinds stand here as the bytes that both ends exchange.
 #[test]
 fn replies_of_each_command(rt: HostRuntime) {
     answered(&rt, 1, &[], &[0, 32, 0, 0, 0, 0, 32, 0, 0], true);
     answered(&rt, 1, &[], &[0, 31, 0, 0, 0, 0, 32, 0, 0], false);
     answered(&rt, 2, &[0, 0, 0, 0, 2, 0, 0, 0], &[0, 7, 8], true);
     answered(&rt, 2, &[0, 0, 0, 0, 2, 0, 0, 0], &[0, 7], false);
+    answered(&rt, 3, &[0, 0, 0, 0, 1], &[0], true);
     answered(&rt, 3, &[0, 0, 0, 0, 1], &[2], true);
+    answered(&rt, 4, &[5, 0, 0, 0], &[0], true);
     answered(&rt, 4, &[5, 0, 0, 0], &[1], false);
+    answered(&rt, 6, &[0, 0, 0, 0, 1, 0, 0, 0], &[0, 7], true);
+    answered(&rt, 7, &[], &[0], true);
     answered(&rt, 7, &[], &[0, 0], false);
     answered(&rt, 8, &[], &[0], false);
     let end = [0, 10, 64, 0, 0, 0, 0, 0, 0, 0, 0, 0, 0, 0, 9, 0, 0, 0];
@@ -83,6 +88,22 @@ fn replies_of_each_command(rt: HostRuntime) {
         &[0, 0, 0, 0, 0, 0, 0, 0, 0, 0, 0, 0, 0, 0, 0x0C, 0, 0x41, 0],
         false,
     );
+}
+
+/// The payload of a reply to Run: this kind of end, two numbers, and a third that is 0.
+fn end(kind: u8, a: u8, b: u8) -> [u8; 18] {
+    [0, kind, a, 0, 0, 0, b, 0, 0, 0, 0, 0, 0, 0, 9, 0, 0, 0]
+}
+
+#[test]
+fn kinds_of_ends(rt: HostRuntime) {
+    for kind in 0..=255 {
+        let plain = matches!(kind, 0 | 9..=12);
+        answered(&rt, 5, &[0; 12], &end(kind, 0, 0), plain);
+        let placed = matches!(kind, 10..=12);
+        answered(&rt, 5, &[0; 12], &end(kind, 64, 0), placed);
+        answered(&rt, 5, &[0; 12], &end(kind, 64, 1), kind == 11);
+    }
 }
 
 #[test]
