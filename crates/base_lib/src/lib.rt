@@ -1,10 +1,10 @@
 //! The base library: its two assemblies, made of the tables in `base_tables`, and the names of its natives.
 #![tactic(auto)]
 
-pub mod code;
+mod code;
 pub mod files;
-pub mod items;
-pub mod keys;
+mod items;
+mod keys;
 pub mod law;
-pub mod rows;
-pub mod signatures;
+mod rows;
+mod signatures;
