@@ -6,7 +6,7 @@ use cil_layout::rows::{
 use cil_listing::assembly::{open, row_at, text};
 use cil_listing::members::listing;
 use cil_tables::Tables;
-use mf_types::fault::NoMemory;
+use plain_types::fault::NoMemory;
 use std::alloc::Global;
 use std::test::Fail;
 

@@ -9,7 +9,7 @@ use crate::keys::token_for;
 use base_tables::op::Op;
 use base_tables::shape::{Form, Item, Line};
 use cil_build::write::{push_bytes, push_four, push_two};
-use mf_types::fault::NoMemory;
+use plain_types::fault::NoMemory;
 use std::alloc::Global;
 
 /// An opcode.

@@ -13,7 +13,7 @@ use base_tables::library::{MSCORLIB_NAME, NATIVE_NAME, NATIVES, VERSION};
 use base_tables::parts::natives;
 use base_tables::shape::Item;
 use cil_build::build::{Build, BuildRefusal};
-use mf_types::fault::NoMemory;
+use plain_types::fault::NoMemory;
 use std::alloc::Global;
 
 /// All that the items ask for.

@@ -9,7 +9,7 @@ use base_tables::parts::{
     small_numbers, strings, texts, wide_numbers,
 };
 use base_tables::shape::Item;
-use mf_types::fault::NoMemory;
+use plain_types::fault::NoMemory;
 use std::alloc::Global;
 
 /// Adds a table's items.

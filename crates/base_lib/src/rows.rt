@@ -18,7 +18,7 @@ use base_tables::shape::{Entry, Item, Kind, Work};
 use cil_build::build::{Build, BuildRefusal};
 use cil_build::refs::RefRow;
 use cil_layout::rows::{METHOD_DEF, STAND_ALONE_SIG};
-use mf_types::fault::NoMemory;
+use plain_types::fault::NoMemory;
 use std::alloc::Global;
 
 /// The flag of an internal call (ECMA-335 II.23.1.11).

@@ -11,7 +11,7 @@ use crate::keys::token_for;
 use base_tables::shape::{Element, Item, Kind, Signature};
 use cil_build::tokens::type_of;
 use cil_build::write::{push_bytes, push_compressed};
-use mf_types::fault::NoMemory;
+use plain_types::fault::NoMemory;
 use std::alloc::Global;
 
 /// A type that the key of a class or a value type names.

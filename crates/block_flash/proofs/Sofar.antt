@@ -3,8 +3,8 @@ use Rattle.std.proofs.Common.{◌≡◌, ℕ, ◌+◌, ◌-◌, ◌%◌, ◌<◌
 use Rattle.std.specs.Prelude.{nat_le, nat_lt, slice_index, slice_set, if◌then◌else◌}
 use Rattle.std.proofs.lemmas.List.{ext_get_or}
 use Rattle.std.proofs.lemmas.Bool.{cases_lt, cases_eq, and_from, and_left, and_right, le-leb, lt-leb, lt-ltb, le-ltb}
-use Rattle.mf_types.specs.Flash.{Operation, start, span, covers, chosen, cut}
-use Rattle.mf_types.proofs.FlashContents.{length-by_place, get-by_place}
+use Rattle.flash_trait.specs.Flash.{Operation, start, span, covers, chosen, cut}
+use Rattle.flash_trait.proofs.FlashContents.{length-by_place, get-by_place}
 
 -- the mask byte of the i-th byte
 abbrev pub mask_byte : List ℕ → ℕ → ℕ

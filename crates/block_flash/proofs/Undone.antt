@@ -3,8 +3,8 @@ use Rattle.std.proofs.Common.{◌≡◌, ℕ, ◌+◌, ◌-◌, ◌<◌, ◌≤�
 use Rattle.std.specs.Prelude.{reverse, ◌==◌, slice_index, if◌then◌else◌}
 use Rattle.std.proofs.lemmas.List.{ext_get_or, get_or-take, get_or-drop, reverse-append}
 use Rattle.std.proofs.lemmas.Bool.{eqb-true}
-use Rattle.mf_types.specs.Flash.{Operation, start, span, covers, may_stand, IsStopped}
-use Rattle.mf_types.proofs.FlashContents.{length-by_place, get-by_place, covers-true}
+use Rattle.flash_trait.specs.Flash.{Operation, start, span, covers, may_stand, IsStopped}
+use Rattle.flash_trait.proofs.FlashContents.{length-by_place, get-by_place, covers-true}
 use Rattle.block_flash.specs.declared.change.Entry.{Entry}
 use Rattle.block_flash.specs.Change.{logged_of}
 use Rattle.block_flash.specs.History.{put_back, undone, history_back, history, Keeps}

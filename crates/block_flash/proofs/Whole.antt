@@ -5,8 +5,8 @@ use Rattle.std.proofs.lemmas.List.{ext_get_or}
 use Rattle.std.specs.Int.Bits.{xor_self, xor_assoc, xor_zero_l}
 use Rattle.std.proofs.lemmas.Nat.{and_mask, and_comm, xor_of_8, and_le_l}
 use Rattle.std.proofs.Math.Nat.{mod-eq_of_lt}
-use Rattle.mf_types.specs.Flash.{Operation, Program, Erase, AreBytes, start, covers, wanted, chosen, after, cut}
-use Rattle.mf_types.proofs.FlashContents.{length-by_place, get-by_place}
+use Rattle.flash_trait.specs.Flash.{Operation, Program, Erase, AreBytes, start, covers, wanted, chosen, after, cut}
+use Rattle.flash_trait.proofs.FlashContents.{length-by_place, get-by_place}
 
 abbrev pub ones : List ℕ
 ones = 255 ∷ []

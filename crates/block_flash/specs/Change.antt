@@ -1,6 +1,6 @@
 -- The operation of a change, and that of an entry of the record.
-use Rattle.mf_types.specs.Flash as flash
-use Rattle.mf_types.specs.Flash.{Operation}
+use Rattle.flash_trait.specs.Flash as flash
+use Rattle.flash_trait.specs.Flash.{Operation}
 use Rattle.block_flash.specs.declared.change.Change.{Change}
 use Rattle.block_flash.specs.declared.change.Change.TheVariants as change
 use Rattle.block_flash.specs.declared.change.Logged.{Logged}

@@ -1,7 +1,7 @@
 -- The record of a flash, told by what its entries kept.
 use Rattle.std.specs.Prelude.{reverse, ℕ, ◌-◌, List, [], ◌∷◌, ◌++◌, ◌≡◌, take, drop, slice_index, if◌then◌else◌}
-use Rattle.mf_types.specs.Flash.{Operation, start, span, covers, by_place}
-use Rattle.mf_types.specs.FlashCalls.{Done}
+use Rattle.flash_trait.specs.Flash.{Operation, start, span, covers, by_place}
+use Rattle.flash_trait.specs.FlashCalls.{Done}
 use Rattle.block_flash.specs.declared.change.Entry.{Entry}
 use Rattle.block_flash.specs.Change.{logged_of}
 

@@ -1,6 +1,6 @@
 -- What is known of a flash in memory.
 use Rattle.std.specs.Prelude.{◌-◌, ◌==◌, true, length, vec_len, if◌then◌else◌}
-use Rattle.mf_types.specs.FlashCalls.{FlashState}
+use Rattle.flash_trait.specs.FlashCalls.{FlashState}
 use Rattle.block_flash.specs.declared.memory_flash.MemoryFlash.{MemoryFlash}
 use Rattle.block_flash.specs.History.{history}
 

@@ -1,11 +1,11 @@
 //! What an operation changes, byte by byte.
 
 ghost use Rattle.std.specs.Prelude.{◌≡◌, ◌+◌, ◌<◌, ◌≤◌, ℕ, length, take, drop};
-ghost use Rattle.mf_types.specs.Flash.{start, span, chosen, IsPossible, AreBytes, after, cut};
+ghost use Rattle.flash_trait.specs.Flash.{start, span, chosen, IsPossible, AreBytes, after, cut};
 ghost use Rattle.block_flash.specs.Change.{operation_of, logged_of};
 
 use arrayvec::ArrayVec;
-use mf_types::flash::SECTOR_SIZE;
+use flash_trait::flash::SECTOR_SIZE;
 
 /// An operation that is asked for.
 #[derive(Clone, Copy, Debug)]

@@ -2,15 +2,15 @@
 
 ghost use Rattle.std.specs.Prelude.{◌≡◌, ◌≢◌, ◌+◌, ◌-◌, ◌<◌, ◌≤◌, ◌==◌, ℕ, [], true, IfOk, OnOk, IsTrue, IsErrOf, None, Some, Option, MatchOption, length, vec_len, vec_capacity, if◌then◌else◌};
 ghost use Rattle.std.specs.Option.{ForSome};
-ghost use Rattle.mf_types.specs.Flash.{IsPossible};
-ghost use Rattle.mf_types.specs.FlashCalls.{FlashState, IsDue, Completes, IsCut, IsFailed, counted};
-ghost use Rattle.mf_types.specs.declared.flash.Stop.{Stop};
+ghost use Rattle.flash_trait.specs.Flash.{IsPossible};
+ghost use Rattle.flash_trait.specs.FlashCalls.{FlashState, IsDue, Completes, IsCut, IsFailed, counted};
+ghost use Rattle.flash_trait.specs.declared.flash.Stop.{Stop};
 
 use crate::change::{Change, Entry};
-use mf_types::calls::is_due;
-use mf_types::fault::NoMemory;
-use mf_types::flash::{Flash, FlashErr, Stop};
-use mf_types::list::Items;
+use outside_in_memory::calls::is_due;
+use plain_types::fault::NoMemory;
+use flash_trait::flash::{Flash, FlashErr, Stop};
+use plain_types::list::Items;
 use std::alloc::Global;
 
 /// A flash in memory that tells its record. It has room for a number of operations; one past the room fails, counts
@@ -26,6 +26,8 @@ pub struct MemoryFlash {
     stops: u64,
     log: Vec<Entry>,
     room: usize,
+    fail_mask: Items<u8>,
+    ghost failing: { 1 ≤ length fail_mask },
     ghost sized: { length content.items ≡ 262144 },
     ghost masked: { ForSome armed (λ stop. 1 ≤ length stop.mask) },
     ghost within: { vec_len log ≤ room },
@@ -79,6 +81,7 @@ impl MemoryFlash {
         }) }
     {
         let log = Vec::with_capacity(alloc, room as usize)?;
+        let fail_mask = Items::from_vec(vec![in alloc; 0; 1]?);
         Ok(MemoryFlash {
             content,
             on: true,
@@ -89,7 +92,17 @@ impl MemoryFlash {
             stops: 0,
             log,
             room: room as usize,
+            fail_mask,
         })
+    }
+
+    /// From now on an operation inside the room that is due to fail leaves what this mask leaves of it.
+    pub fn fail_mask(&mut self, mask: Vec<u8>)
+        requires some { 1 ≤ length mask.items }
+        requires few { length mask.items ≤ 8192 }
+        ensures { state_of self.new ≡ state_of self.old }
+    {
+        self.fail_mask = Items::from_vec(mask);
     }
 
     /// Keeps in the record what an operation is about to change.
@@ -115,11 +128,16 @@ impl MemoryFlash {
     {
         let stop = count_operation(&mut self.armed);
         self.operations = self.operations.saturating_add(1);
-        if is_due(&self.fails, self.operations) || self.log.len() == self.room {
+        if self.log.len() == self.room {
             self.faults = self.faults.saturating_add(1);
             return Err(FlashErr::Failed);
         }
         Self::keep(&mut self.log, &self.content, change);
+        if is_due(&self.fails, self.operations) {
+            change.make(&mut self.content, self.fail_mask.as_slice());
+            self.faults = self.faults.saturating_add(1);
+            return Err(FlashErr::Failed);
+        }
         match stop {
             None => {
                 change.make_whole(&mut self.content);

@@ -1,7 +1,7 @@
 //! The builder.
 
 ghost use Rattle.std.specs.Prelude.{◌≡◌, ◌+◌, ◌<◌, ◌≤◌, ◌↔◌, Err, IfOk, IsTrue, OnErr, OnOk, length, min, map, nat_lt, if◌then◌else◌};
-ghost use Rattle.mf_types.specs.declared.fault.NoMemory.{NoMemory};
+ghost use Rattle.plain_types.specs.declared.fault.NoMemory.{NoMemory};
 ghost use Rattle.cil_layout.specs.declared.rows.FieldRow.{FieldRow};
 ghost use Rattle.cil_layout.specs.declared.rows.Row.TheVariants.{TypeDef, Field, MethodDef, Literal};
 ghost use Rattle.cil_layout.specs.Asked.{asked_first, rows_of, table_of, token_of, with_row, with_entry, weight_of};
@@ -18,8 +18,8 @@ use cil_layout::rows::{
     FIELD, FieldRow, HEADERS_WEIGHT, LITERAL, METHOD_DEF, MOST_ROWS, MOST_WEIGHT, MethodRow,
     ROW_WEIGHT, Row, TYPE_DEF, TypeRow,
 };
-use mf_types::fault::NoMemory;
-use mf_types::list::{Items, Text};
+use plain_types::fault::NoMemory;
+use plain_types::list::{Items, Text};
 use std::alloc::Global;
 use std::marker::Model;
 

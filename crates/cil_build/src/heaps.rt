@@ -9,7 +9,7 @@ ghost use Rattle.std.specs.List.{flat_map, list_any};
 use crate::write::{pad, push_blob, push_bytes, push_compressed, push_name, push_padded};
 use cil_layout::fixed::MODULE_TYPE;
 use cil_layout::rows::Row;
-use mf_types::fault::NoMemory;
+use plain_types::fault::NoMemory;
 use std::alloc::Global;
 
 /// The heaps as they grow, and the bodies and data.

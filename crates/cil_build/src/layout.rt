@@ -16,7 +16,7 @@ use cil_layout::fixed::{
 };
 use cil_layout::places::Widths;
 use cil_layout::rows::{ASSEMBLY_REF, METHOD_DEF, TABLES, TYPE_DEF, TYPE_REF, TYPE_SPEC};
-use mf_types::fault::NoMemory;
+use plain_types::fault::NoMemory;
 use std::alloc::Global;
 
 /// A multiple of 512 that is large enough.

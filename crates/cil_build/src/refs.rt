@@ -7,8 +7,8 @@ use cil_layout::rows::{
     MEMBER_REF, MemberRefRow, NESTED_CLASS, NestedRow, Row, STAND_ALONE_SIG, TYPE_REF, TYPE_SPEC,
     TypeRefRow,
 };
-use mf_types::fault::NoMemory;
-use mf_types::list::{Items, Text};
+use plain_types::fault::NoMemory;
+use plain_types::list::{Items, Text};
 use std::alloc::Global;
 
 /// A row of one of the smaller tables. Each token is one that its column takes (ECMA-335 II.22).

@@ -18,7 +18,7 @@ use cil_layout::rows::{
     ASSEMBLY, ASSEMBLY_REF, CLASS_LAYOUT, FIELD, FIELD_RVA, INTERFACE_IMPL, MEMBER_REF, METHOD_DEF,
     MODULE, NESTED_CLASS, Row, STAND_ALONE_SIG, TABLES, TYPE_DEF, TYPE_REF, TYPE_SPEC,
 };
-use mf_types::fault::NoMemory;
+use plain_types::fault::NoMemory;
 
 /// The bytes of a name's entry.
 pub fn name_len(name: &str) -> u32

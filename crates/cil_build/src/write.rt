@@ -5,7 +5,7 @@ ghost use Rattle.cil_layout.specs.Layout.{two, four, spelled};
 ghost use Rattle.cil_layout.specs.Heaps.{name_entry, padded};
 ghost use Rattle.cil_layout.specs.Text.{compressed, blob_entry, text_bytes};
 
-use mf_types::fault::NoMemory;
+use plain_types::fault::NoMemory;
 
 /// A number of two bytes, the lowest first.
 pub fn push_two(out: &mut Vec<u8>, number: u16) -> Result<(), NoMemory>

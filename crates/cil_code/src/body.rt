@@ -5,8 +5,8 @@ ghost use Rattle.cil_code.specs.Sections.{clauses_in};
 
 use crate::clause::Clause;
 use crate::sections::{all_clauses, numbered_clause};
-use mf_types::fault::NoMemory;
-use mf_types::list::Items;
+use plain_types::fault::NoMemory;
+use plain_types::list::Items;
 use std::alloc::Global;
 use std::marker::Model;
 

@@ -5,7 +5,7 @@ ghost use Rattle.cil_code.specs.Sections.{form_of, formed_section, section_len, 
 
 use crate::clause::{Clause, Form, clause_of};
 use file_tables::bytes::u32_at;
-use mf_types::fault::NoMemory;
+use plain_types::fault::NoMemory;
 use std::alloc::Global;
 
 /// A section: how it spells its clauses, how many there are, its bytes, and whether another section follows.

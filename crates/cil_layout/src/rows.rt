@@ -1,6 +1,6 @@
 //! The rows that are asked for, with their names, signatures and bytes.
 
-use mf_types::list::{Items, Text};
+use plain_types::list::{Items, Text};
 
 /// A row of TypeDef (ECMA-335 II.22.37). The fields and methods that are asked for behind it are its own.
 #[derive(Drop)]

@@ -1,7 +1,7 @@
 //! A file with its tables.
 
 use cil_tables::{Row, Tables};
-use mf_types::fault::Fault;
+use plain_types::fault::Fault;
 use pe_reader::{Pe, metadata};
 
 /// The tables that are listed (ECMA-335 II.22).

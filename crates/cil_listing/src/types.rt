@@ -3,7 +3,7 @@
 use crate::assembly::{TYPE_DEF, TYPE_REF, row_at, text};
 use cil_sig::sig::SigType;
 use cil_tables::Tables;
-use mf_types::elem::Elem;
+use plain_types::elem::Elem;
 use std::alloc::AllocError;
 
 /// Appends namespace and name, with a point between them where there is a namespace.

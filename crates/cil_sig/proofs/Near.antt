@@ -2,7 +2,7 @@
 use Rattle.std.proofs.Common.{◌≡◌, ℕ, zero, suc, ◌+◌, ◌*◌, ◌%◌, ◌^◌, ◌≤◌, ◌<◌, Bool, true, false, cond, ltb, eqb, List, [], ◌∷◌, length, drop, Option, Some, None, Ok, Err, arith, refl, length-drop}
 use Rattle.std.specs.Option.{ok_or}
 use Rattle.std.proofs.lemmas.Bool.{ltb-true, ltb-false}
-use Rattle.mf_types.specs.declared.elem.Elem.{Elem}
+use Rattle.plain_types.specs.declared.elem.Elem.{Elem}
 use Rattle.cil_sig.specs.declared.sig.SigType.{SigType}
 use Rattle.cil_sig.specs.declared.sig.MethodSig.{MethodSig}
 use Rattle.cil_sig.specs.declared.reading.Slot.{Slot}

@@ -4,7 +4,7 @@ use Rattle.std.specs.Prelude.{replicate, MatchBool, ◌⊎◌}
 use Rattle.std.specs.Option.{ok_or}
 use Rattle.std.proofs.lemmas.Bool.{ltb-false, le-ltb, eqb-true}
 use Rattle.std.proofs.lemmas.List.{drop_at, length-replicate}
-use Rattle.mf_types.specs.declared.elem.Elem.{Elem}
+use Rattle.plain_types.specs.declared.elem.Elem.{Elem}
 use Rattle.cil_sig.specs.declared.sig.SigType.{SigType}
 use Rattle.cil_sig.specs.declared.elements.TheConstants.{VOID, POINTER, ARRAY, MAX_RANKS}
 use Rattle.cil_sig.specs.Elements.{element_of, names_type}

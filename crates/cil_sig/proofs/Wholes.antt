@@ -1,7 +1,7 @@
 -- What is read is what is spelled, and what is spelled is read again: whole signatures.
 use Rattle.std.proofs.Common.{◌≡◌, ℕ, zero, suc, ◌<◌, Bool, true, false, cond, eqb, List, [], ◌∷◌, ◌++◌, length, Ok, refl, sym, ap, subst, ◌∙◌, append_assoc, arith, inl, inr}
 use Rattle.std.specs.Prelude.{replicate, Option, Some, None}
-use Rattle.mf_types.specs.declared.elem.Elem.{Elem}
+use Rattle.plain_types.specs.declared.elem.Elem.{Elem}
 use Rattle.cil_sig.specs.Elements.{element_of}
 use Rattle.std.proofs.lemmas.Bool.{eqb-true}
 use Rattle.std.proofs.lemmas.List.{append-nil}

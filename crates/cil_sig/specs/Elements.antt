@@ -1,7 +1,7 @@
 -- The table of element codes, read (ECMA-335 II.23.1.16).
 use Rattle.std.specs.Prelude.{ℕ, Bool, true, false, Option, None, slice_index_or}
-use Rattle.mf_types.specs.declared.elem.Elem.{Elem}
-use Rattle.mf_types.specs.declared.elem.Elem.TheVariants.{Class, Value}
+use Rattle.plain_types.specs.declared.elem.Elem.{Elem}
+use Rattle.plain_types.specs.declared.elem.Elem.TheVariants.{Class, Value}
 use Rattle.cil_sig.specs.declared.elements.TheConstants.{ELEMENTS}
 
 -- the element of a code

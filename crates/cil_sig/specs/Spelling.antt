@@ -1,6 +1,6 @@
 -- What bytes spell a signature, apart from how they are read (ECMA-335 II.23.2).
 use Rattle.std.specs.Prelude.{◌≡◌, ℕ, ◌%◌, ◌<◌, ◌≤◌, Bool, true, false, List, [], ◌∷◌, ◌++◌, length, replicate, Some, MatchBool, ◌⊎◌}
-use Rattle.mf_types.specs.declared.elem.Elem.{Elem}
+use Rattle.plain_types.specs.declared.elem.Elem.{Elem}
 use Rattle.cil_sig.specs.declared.sig.SigType.{SigType}
 use Rattle.cil_sig.specs.declared.sig.MethodSig.{MethodSig}
 use Rattle.cil_sig.specs.declared.elements.TheConstants.{VOID, POINTER, ARRAY, MAX_RANKS, MAX_COUNT, FIELD, LOCALS, STATIC_METHOD, INSTANCE_METHOD}

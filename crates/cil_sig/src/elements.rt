@@ -3,7 +3,7 @@
 ghost use Rattle.std.specs.Prelude.{◌≡◌};
 ghost use Rattle.cil_sig.specs.Elements.{element_of, names_type};
 
-use mf_types::elem::Elem;
+use plain_types::elem::Elem;
 
 /// The result of a method that returns nothing.
 pub const VOID: u8 = 0x01;

@@ -10,7 +10,7 @@ use crate::elements::{
 use crate::sig::SigType;
 use crate::stop::{NoCase, Stop};
 use file_tables::compressed::compressed;
-use mf_types::elem::Elem;
+use plain_types::elem::Elem;
 use std::alloc::Global;
 
 /// What is listed behind a count.

@@ -3,8 +3,8 @@
 ghost use Rattle.std.specs.Prelude.{◌≡◌};
 ghost use Rattle.cil_sig.specs.declared.sig.SigFault.TheVariants.{NoMemory};
 
-use mf_types::elem::Elem;
-use mf_types::list::Items;
+use plain_types::elem::Elem;
+use plain_types::list::Items;
 use std::alloc::{AllocError, AllocFailed};
 
 /// A type in a signature.

@@ -11,7 +11,7 @@ use crate::elements::{ARRAY, FIELD, LOCALS};
 use crate::reading::{Slot, count, ended, marked, plain_type, result_type, slot_types, this_mark};
 use crate::sig::{MethodSig, SigFault, SigType};
 use crate::stop::{NoCase, Stop};
-use mf_types::list::Items;
+use plain_types::list::Items;
 use std::alloc::Global;
 
 #[tactic(auto, unfolding(crate::specs::Reading::whole_type))]

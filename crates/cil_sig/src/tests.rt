@@ -1,7 +1,7 @@
 use crate::places::{Position, element_place};
 use crate::sig::{SigFault, SigType};
 use crate::signatures::{field_sig, locals_sig, method_sig, spec_sig};
-use mf_types::elem::Elem;
+use plain_types::elem::Elem;
 use std::test::Fail;
 
 fn plain(elem: Elem) -> SigType {

@@ -2,7 +2,7 @@
 use Rattle.std.proofs.Common.{◌≡◌, ℕ, zero, suc, ◌+◌, ◌<◌, Bool, true, false, cond, ◌&&◌, List, [], ◌∷◌, ◌++◌, map, length, get_or, Some, None, refl, ap, sym, ◌∙◌, subst, arith}
 use Rattle.std.specs.Prelude.{slice_index, nat_lt}
 use Rattle.std.specs.List.{range_with_len, flat_map, list_all, enumerate_from}
-use Rattle.mf_types.specs.declared.fault.Fault.{Fault}
+use Rattle.plain_types.specs.declared.fault.Fault.{Fault}
 use Rattle.file_tables.specs.declared.schema.TheConstants.{LOOKED_AT}
 use Rattle.file_tables.specs.Rules.{Rule, rule_at, rule_of_row, first_broken}
 use Rattle.std.proofs.lemmas.Bool.{ltb-true}

@@ -1,6 +1,6 @@
 -- The whole answer from the rules in their order.
 use Rattle.std.proofs.Common.{◌≡◌, ℕ, true, false, List, [], ◌++◌, Some, None, Ok, Err, refl, ◌∙◌}
-use Rattle.mf_types.specs.declared.fault.Fault.{Fault}
+use Rattle.plain_types.specs.declared.fault.Fault.{Fault}
 use Rattle.file_tables.specs.Rules.{rule_at, first_broken}
 use Rattle.file_tables.specs.Streams as streams
 use Rattle.file_tables.specs.Metadata as metadata

@@ -11,7 +11,7 @@ use crate::row::Row;
 use crate::tables::Tables;
 use crate::text_index::{PLACES, TextIndex};
 use file_tables::schema::{Coded, Column, LOOKED_AT, NO_TABLE, columns};
-use mf_types::fault::Fault;
+use plain_types::fault::Fault;
 
 /// The table that a coded index names, and its row (ECMA-335 II.24.2.6).
 #[derive(Clone, Copy)]

@@ -3,7 +3,7 @@
 ghost use Rattle.std.specs.Prelude.{◌≡◌, ◌<◌, ◌^◌, false};
 ghost use Rattle.file_tables.specs.Rules.{rule_at, rule_of_row};
 
-use mf_types::fault::{Fault, Place, WHOLE_FILE};
+use plain_types::fault::{Fault, Place, WHOLE_FILE};
 
 /// A broken rule of the file, with the offset from the metadata root.
 pub fn broken(rule: u8, offset: usize) -> Fault

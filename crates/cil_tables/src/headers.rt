@@ -11,7 +11,7 @@ ghost use Rattle.cil_tables.specs.Headers.{name_of, fits, header_order, AreAllNo
 use crate::fault::broken;
 use crate::root::{Headers, name_at, next_header};
 use crate::view::four;
-use mf_types::fault::Fault;
+use plain_types::fault::Fault;
 use std::cmp::Ordering;
 
 /// So many headers are tested in a small table.

@@ -17,7 +17,7 @@ use crate::shape::{Shape, count, row_width};
 use crate::view::{byte, eight, four};
 use file_tables::bytes::has_bit;
 use file_tables::schema::columns;
-use mf_types::fault::Fault;
+use plain_types::fault::Fault;
 
 /// The row counts, and where the rows begin.
 #[derive(Clone, Copy)]

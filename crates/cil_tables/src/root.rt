@@ -10,7 +10,7 @@ ghost use Rattle.cil_tables.specs.Place.{place_of, HasRoot};
 use crate::fault::broken;
 use crate::heap::zero_place;
 use crate::view::{four, rest, two};
-use mf_types::fault::Fault;
+use plain_types::fault::Fault;
 
 /// Where a stream stands in the region.
 #[derive(Clone, Copy)]

@@ -16,7 +16,7 @@ use crate::root::{Headers, read_root, stream_named};
 use crate::row::{Row, read_row};
 use crate::shape::count;
 use crate::view::range;
-use mf_types::fault::Fault;
+use plain_types::fault::Fault;
 use std::marker::Model;
 
 /// The tables and heaps of metadata that keep rules 8 to 13, read in place. Contracts see them as lists of rows and

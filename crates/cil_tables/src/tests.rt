@@ -1,5 +1,5 @@
 use super::*;
-use mf_types::fault::Fault;
+use plain_types::fault::Fault;
 use std::process::Abort;
 use std::test::*;
 

@@ -1,6 +1,6 @@
 -- All parts of a file, over which everything above is defined.
 use Rattle.std.specs.Prelude.{ℕ, List, Result, Ok, Err}
-use Rattle.mf_types.specs.declared.fault.Fault.{Fault}
+use Rattle.plain_types.specs.declared.fault.Fault.{Fault}
 use Rattle.file_tables.specs.Pe.{PePart, pe_of}
 use Rattle.file_tables.specs.Metadata.{MetadataPart, metadata_of}
 

@@ -3,7 +3,7 @@
 use Rattle.std.specs.Prelude.{codes, ℕ, zero, suc, ◌+◌, ◌*◌, ◌/◌, ◌%◌, ◌^◌, ◌==◌, Bool, true, cond, not, max, ◌&&◌, ◌||◌, List, [], ◌∷◌, ◌++◌, map, length, nat_le, slice_index, slice_index_or, is_some, unwrap_or, Result}
 use Rattle.std.specs.Option.{option_map}
 use Rattle.std.specs.List.{list_all, range_with_len, count_by, enumerate_from, flat_map}
-use Rattle.mf_types.specs.declared.fault.Fault.{Fault}
+use Rattle.plain_types.specs.declared.fault.Fault.{Fault}
 use Rattle.file_tables.specs.declared.schema.Column.{Column}
 use Rattle.file_tables.specs.declared.schema.Column.TheVariants.{Two, Four, Strings, Guid, Blob, RowOf, ListOf, Token, TokenOrNone}
 use Rattle.file_tables.specs.declared.schema.Coded.{Coded}

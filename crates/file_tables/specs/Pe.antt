@@ -3,7 +3,7 @@
 use Rattle.std.specs.Prelude.{ℕ, ◌+◌, ◌-◌, ◌*◌, ◌==◌, Bool, not, ◌&&◌, List, [], ◌∷◌, map, length, slice_index, nat_le, Option, is_some, Result, unwrap_or}
 use Rattle.std.specs.Option.{option_map}
 use Rattle.std.specs.List.{find, range_with_len}
-use Rattle.mf_types.specs.declared.fault.Fault.{Fault}
+use Rattle.plain_types.specs.declared.fault.Fault.{Fault}
 use Rattle.file_tables.specs.Bytes.{u16_at, u32_at, range_of, has_bit}
 use Rattle.file_tables.specs.Rules.{Rule, rule_at, first_broken, unless_broken}
 

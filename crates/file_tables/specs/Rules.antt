@@ -1,6 +1,6 @@
 -- Rules of refusal as data: each with the place that it names and whether the bytes keep it.
 use Rattle.std.specs.Prelude.{ℕ, Bool, cond, List, [], ◌∷◌, Option, Some, None, Result, Ok, Err}
-use Rattle.mf_types.specs.declared.fault.Fault.{Fault}
+use Rattle.plain_types.specs.declared.fault.Fault.{Fault}
 
 pub record Rule : Type 0 where
   pub fault : Fault

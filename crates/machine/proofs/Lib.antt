@@ -4,3 +4,4 @@ pub mod ThrowRuns
 pub mod MemoryRuns
 pub mod ObjectRuns
 pub mod NativeRuns
+pub mod BorderRuns

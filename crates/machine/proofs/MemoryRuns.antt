@@ -3,7 +3,7 @@ use Rattle.std.proofs.Common.{◌≡◌, List, [], ◌∷◌, Some, None, refl}
 use Rattle.std.specs.Prelude.{pos, negsuc}
 use Rattle.cil_opcodes.specs.declared.shape.IntegerType.TheVariants.{I1, U1, I4, U4}
 use Rattle.cil_opcodes.specs.declared.shape.Operator.TheVariants.{Add}
-use Rattle.mf_types.specs.declared.elem.Elem.TheVariants as elem
+use Rattle.plain_types.specs.declared.elem.Elem.TheVariants as elem
 use Rattle.machine.specs.Data.{CliType, Int, Null, Plain, To, Basic, ArrayOf, ClassOf, Bits, Refers}
 use Rattle.machine.specs.Program.{Program, Exact, Typed, Push, Pop, Binary, Call, NewObject, Return, LoadArgument, StoreArgument, LoadLocal, StoreLocal, LoadLocalAddress, LoadArgumentAddress, LoadIndirect, StoreIndirect, LoadStatic, StoreStatic, LoadStaticAddress, LoadField, StoreField, LoadFieldAddress, NewArray, LoadLength, LoadElement, StoreElement, LoadElementAddress, Branch, Nop}
 use Rattle.machine.specs.Numbers.{binary, kept, kept_in, zero_of, zero_place}

@@ -6,7 +6,7 @@ use Rattle.std.specs.Option.{option_map}
 use Rattle.std.specs.Char.Utf16.{utf16_chars}
 use Rattle.std.specs.Fmt.{digits}
 use Rattle.std.specs.Str.{chars}
-use Rattle.mf_types.specs.declared.elem.Elem.TheVariants as elem
+use Rattle.plain_types.specs.declared.elem.Elem.TheVariants as elem
 use Rattle.machine.specs.Data.{Id, Basic, EnumOf, Value, Int, Long, Null, Object, Handle, Thing, Instance, Text, Elements, Boxed, Frame, State, End, Going, Returned, Threw}
 use Rattle.machine.specs.Program.{Program, NativeName, ObjectToString, EnumEquals, EnumToString, ArrayLength, ArrayCopy, StringLength, StringChars, StringConcat, StringSubstring, StringEquals, StringCompare, StringFromChars, StringFromChar, NumberSigned, NumberUnsigned, InitializeArray, DebugPrint}
 use Rattle.machine.specs.Numbers.{zero_of}

@@ -7,7 +7,7 @@ use Rattle.cil_opcodes.specs.declared.shape.Operator.TheVariants.{Add, Subtract,
 use Rattle.cil_opcodes.specs.declared.shape.UnaryOperator.TheVariants.{Negate, Complement}
 use Rattle.cil_opcodes.specs.declared.shape.ShiftOperator.TheVariants.{Left, Right, RightUnsigned}
 use Rattle.cil_opcodes.specs.declared.shape.Comparison.TheVariants.{Equal, GreaterUnsigned, Less, LessUnsigned}
-use Rattle.mf_types.specs.declared.board.Known.TheVariants.{Overflow, Arithmetic, DivideByZero}
+use Rattle.board_types.specs.declared.board.Known.TheVariants.{Overflow, Arithmetic, DivideByZero}
 use Rattle.machine.specs.Data.{Bits, Refers, Value, Int, Long, Null, Object, Plain}
 use Rattle.machine.specs.Program.{Push, Dup, Pop, Binary, LoadLocal, StoreLocal, Branch, BranchCompare, Switch, Leave, Return}
 use Rattle.machine.specs.Numbers.{Gives, Raises, NoCase, binary, shift, unary, compare, branch_compare, convert, convert_checked, truth, kept, kept_in, zero_of, zero_place}

@@ -8,7 +8,7 @@ use Rattle.std.specs.Str.{chars}
 use Rattle.cil_opcodes.specs.declared.shape.IntegerType.TheVariants.{I4}
 use Rattle.cil_opcodes.specs.declared.shape.Operator.TheVariants.{Add}
 use Rattle.cil_opcodes.specs.declared.shape.Comparison.TheVariants.{Equal, GreaterUnsigned}
-use Rattle.mf_types.specs.declared.elem.Elem.TheVariants as elem
+use Rattle.plain_types.specs.declared.elem.Elem.TheVariants as elem
 use Rattle.machine.specs.Data.{CliType, Int, Null, Plain, To, Basic, EnumOf, ArrayOf, ClassOf, Bits}
 use Rattle.machine.specs.Program.{Program, Exact, Typed, Push, Pop, Binary, Compare, Call, CallVirtual, NewObject, Return, LoadArgument, LoadText, LoadLocal, StoreLocal, LoadIndirect, StoreIndirect, NewArray, CastClass, IsInstance, Box, Unbox, UnboxAny, ObjectToString, EnumToString}
 use Rattle.machine.specs.Numbers.{binary, compare, kept, kept_in, zero_of, zero_place}

@@ -2,9 +2,9 @@
 use Rattle.std.proofs.Common.{ℕ, ◌+◌, ◌==◌, ◌&&◌, ◌||◌, Bool, true, false, List, [], ◌∷◌, Option, Some, None}
 use Rattle.std.specs.Prelude.{nat_lt, nat_le, slice_get}
 use Rattle.std.specs.Option.{option_map}
-use Rattle.mf_types.specs.declared.board.Known.{Known}
-use Rattle.mf_types.specs.declared.board.Known.TheVariants.{NullReference, IndexOutOfRange, Overflow, Arithmetic, DivideByZero, InvalidCast, ArrayTypeMismatch, Argument, ArgumentNull, ArgumentOutOfRange}
-use Rattle.mf_types.specs.declared.elem.Elem.TheVariants as elem
+use Rattle.board_types.specs.declared.board.Known.{Known}
+use Rattle.board_types.specs.declared.board.Known.TheVariants.{NullReference, IndexOutOfRange, Overflow, Arithmetic, DivideByZero, InvalidCast, ArrayTypeMismatch, Argument, ArgumentNull, ArgumentOutOfRange}
+use Rattle.plain_types.specs.declared.elem.Elem.TheVariants as elem
 use Rattle.machine.specs.Data.{Id, id_eq, elem_number, CliType, Basic, ClassOf, ArrayOf, type_eq, PlaceType, Plain}
 use Rattle.machine.specs.Trace.{Finish, Trace}
 use Rattle.machine.specs.Program.{Program, Instruction, Initialiser, Line, Clause, Catch, Final, Method, Code, Native, NativeName, DebugPrint}
@@ -118,6 +118,7 @@ program parts =
       known = λ k. Some (id (known_row k));
       basic = λ e. Some (id (15 + elem_number e));
       array = Some (id 14);
+      exception = Some (id 1);
       name = λ c. c.row ∷ [];
     }
 

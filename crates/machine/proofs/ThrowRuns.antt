@@ -6,7 +6,7 @@ use Rattle.cil_opcodes.specs.declared.shape.Operator.TheVariants.{Add, Divide}
 use Rattle.machine.specs.Data.{Int, Null, Plain}
 use Rattle.machine.specs.Program.{Program, Instruction, Push, Pop, Binary, Call, NewObject, Return, LoadStatic, LoadText, Throw, Rethrow, Leave, EndFinally, Initialiser}
 use Rattle.machine.specs.Numbers.{binary, kept, kept_in, zero_of, zero_place}
-use Rattle.machine.specs.Throw.{goes, enter_clause, throw, throw_thing, raise}
+use Rattle.machine.specs.Throw.{goes, enter_clause, throw, throw_thing, throw_exception, raise}
 use Rattle.machine.specs.Objects.{load_static, load_text}
 use Rattle.machine.specs.Natives.{debug_print}
 use Rattle.machine.specs.Calls.{starts, invoke, call, new_object, return_value, start_class}
@@ -88,7 +88,7 @@ throws :
     × (trace (program (catches_below ∷ print ∷ called ∷ [])) 100 1000 ≡ shows (line 102 ++ line 99) (WithNumber (Some (pos 3))))
     × (trace (program (thrower ∷ print ∷ constructor ∷ [])) 100 1000 ≡ shows [] (WithClass (1 ∷ [])))
     × (trace (program (code [] [] None 1 (Push Null ∷ Throw ∷ []) ∷ [])) 100 1000 ≡ shows [] (WithClass (2 ∷ [])))
-unfolding trace step goes start passes starts invoke call new_object return_value raise throw throw_thing enter_clause binary kept kept_in zero_of zero_place load_text debug_print utf16_chars encode
+unfolding trace step goes start passes starts invoke call new_object return_value raise throw throw_thing throw_exception enter_clause binary kept kept_in zero_of zero_place load_text debug_print utf16_chars encode
 throws = (refl, refl, refl, refl, refl, refl, refl, refl, refl)
 
 -- ---- cells. A frame that a throw ends is gone before the exception is placed: 4 cells of the caller and 5 of the callee, then 4 and 1.
@@ -138,5 +138,5 @@ initialises :
     (trace (with_initialiser (reads_twice ∷ print ∷ initialiser ∷ [])) 100 1000 ≡ shows (line 97 ++ line 105) (WithNumber (Some (pos 0))))
     × (trace (with_initialiser (reads_in_try ∷ print ∷ throwing_initialiser ∷ [])) 100 1000 ≡ shows [] (WithClass (6 ∷ [])))
     × (trace (record (program (reads_twice ∷ print ∷ initialiser ∷ [])) { first = Some (record { class = id 40; method = id 2 }) }) 100 1000 ≡ shows (line 105 ++ line 97) (WithNumber (Some (pos 0))))
-unfolding trace step goes start passes starts invoke call return_value start_class raise throw throw_thing enter_clause binary kept kept_in zero_of zero_place load_static load_text debug_print utf16_chars encode
+unfolding trace step goes start passes starts invoke call return_value start_class raise throw throw_thing throw_exception enter_clause binary kept kept_in zero_of zero_place load_static load_text debug_print utf16_chars encode
 initialises = (refl, refl, refl)

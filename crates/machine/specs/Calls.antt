@@ -1,5 +1,5 @@
 -- Rows on methods: calls, constructors and returns (III.3.19, III.3.56, III.4.2, III.4.21).
-use Rattle.std.specs.Prelude.{ℕ, ℤ, ◌-◌, Bool, true, false, List, [], ◌∷◌, ◌++◌, map, length, replicate, Option, Some, None}
+use Rattle.std.specs.Prelude.{ℕ, ℤ, ◌-◌, Bool, true, false, nat_lt, if◌then◌else◌, List, [], ◌∷◌, ◌++◌, map, length, replicate, Option, Some, None}
 use Rattle.std.specs.Option.{option_map}
 use Rattle.machine.specs.Data.{Id, end_of, type_of, PlaceType, Plain, To, cell_of, InObject, Value, Object, Pointer, Thing, Instance, Boxed, Nothing, Frame, State, Returned}
 use Rattle.machine.specs.Program.{Program, Initialiser, Method, Body, Code, Native, Missing}
@@ -12,10 +12,15 @@ abbrev pub start_frame : Bool → Id → Method → List Value → Frame
 start_frame initialiser id m arguments =
     record { method = id; initialiser = initialiser; place = 0; arguments = arguments; locals = map zero_place m.locals; stack = []; slots = replicate (length m.clauses) Nothing }
 
--- the frame waits at its place with a stack, and a frame of the method starts
+-- goes on where the frame's stack has room for what a method returns
+abbrev pub if_room : Program → Frame → List Value → Option PlaceType → Option State → Option State
+if_room p f stack None o = o
+if_room p f stack (Some k) o = on_some (p.method f.method) (λ m. if nat_lt (length stack) m.max_stack then o else None)
+
+-- the frame waits at its place with a stack that has room for the result, and a frame of the method starts
 unfoldable pub starts : Program → State → Frame → List Frame → List Value → Id → Method → List Value → Option State
 starts p s f fs stack id m arguments =
-    on_some (goes p s f fs f.place stack) (λ t. Some (record t { frames = start_frame false id m arguments ∷ t.frames }))
+    if_room p f stack m.returns (on_some (goes p s f fs f.place stack) (λ t. Some (record t { frames = start_frame false id m arguments ∷ t.frames })))
 
 abbrev pub enter : Program → State → Frame → List Frame → ℕ → List Value → Id → Method → List Value → Body → Option State
 enter p s f fs next rest id m arguments Code = starts p s f fs rest id m arguments
@@ -91,8 +96,13 @@ return_value p s f fs =
     on_some (p.method f.method) (λ m.
     on_some (result_of m.returns f.stack) (λ v. hand_back p s f.initialiser v fs))
 
+-- goes on where a method takes nothing
+abbrev pub if_none : {A B : Type 0} → List A → Option B → Option B
+if_none [] o = o
+if_none (x ∷ xs) o = None
+
 abbrev pub start_code : Program → State → Initialiser → Method → Body → Option State
-start_code p s i m Code = Some (record s { started = i.class ∷ s.started; frames = start_frame true i.method m [] ∷ s.frames })
+start_code p s i m Code = if_none m.arguments (Some (record s { started = i.class ∷ s.started; frames = start_frame true i.method m [] ∷ s.frames }))
 start_code p s i m (Native name) = None
 start_code p s i m Missing = None
 

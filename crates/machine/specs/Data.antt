@@ -2,8 +2,8 @@
 use Rattle.std.specs.Prelude.{ℕ, ℤ, ◌+◌, ◌-◌, ◌*◌, ◌/◌, Bool, false, ◌==◌, ◌&&◌, nat_lt, if◌then◌else◌, length, List, [], ◌∷◌, Option, Some, None}
 use Rattle.cil_opcodes.specs.declared.shape.IntegerType.{IntegerType}
 use Rattle.cil_opcodes.specs.declared.shape.IntegerType.TheVariants.{I1, U1, I2, U2, I4, U4, I8, U8}
-use Rattle.mf_types.specs.declared.elem.Elem.{Elem}
-use Rattle.mf_types.specs.declared.elem.Elem.TheVariants as elem
+use Rattle.plain_types.specs.declared.elem.Elem.{Elem}
+use Rattle.plain_types.specs.declared.elem.Elem.TheVariants as elem
 
 -- a type, a method or a field: its file or assembly, and its row there
 pub record Id : Type 0 where
@@ -35,7 +35,7 @@ pub data Cell : Type 0 where
   Bits : (integer : IntegerType) → Cell
   Refers : Cell
 
--- where a pointer leads: into the frame that has so many cells of frames below it, or to one of the values in an object
+-- where a pointer leads: into the frame up to and with which the frames have so many cells, or to one of the values in an object
 -- (a field, an element, what a box or a static field holds)
 pub data Spot : Type 0 where
   InArgument : (depth n : ℕ) → Spot

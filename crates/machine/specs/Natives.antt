@@ -4,7 +4,7 @@ use Rattle.std.specs.Prelude.{ℕ, ℤ, pos, unsigned_abs, zero, suc, ◌+◌, �
 use Rattle.std.specs.Option.{option_map}
 use Rattle.cil_opcodes.specs.declared.shape.IntegerType.{IntegerType}
 use Rattle.cil_opcodes.specs.declared.shape.IntegerType.TheVariants.{U2}
-use Rattle.mf_types.specs.declared.board.Known.TheVariants.{IndexOutOfRange, ArrayTypeMismatch, Argument, ArgumentNull, ArgumentOutOfRange}
+use Rattle.board_types.specs.declared.board.Known.TheVariants.{IndexOutOfRange, ArrayTypeMismatch, Argument, ArgumentNull, ArgumentOutOfRange}
 use Rattle.machine.specs.Data.{Id, thing_at, put_thing, end_of, type_of, type_eq, CliType, Basic, EnumOf, ClassOf, ValueOf, ArrayOf, Cell, Bits, Refers, cell_of, bytes_of, Value, Int, Long, Null, Object, Handle, Pointer, Thing, Instance, Text, Elements, Boxed, StaticCell, Frame, State}
 use Rattle.machine.specs.Program.{Program, NativeName, ObjectToString, EnumEquals, EnumToString, ArrayLength, ArrayCopy, StringLength, StringChars, StringConcat, StringSubstring, StringEquals, StringCompare, StringFromChars, StringFromChar, NumberSigned, NumberUnsigned, InitializeArray, DebugPrint}
 use Rattle.machine.specs.Numbers.{is_negative, of_bool, cut, little_endian, number_in, as_int, as_long, as_handle}
@@ -125,6 +125,15 @@ number_text None v = None
 
 -- ---- arrays
 
+-- an array, or null
+abbrev pub on_array_or_null : List Thing → Value → Option State → Option State
+on_array_or_null heap (Object n) go = on_some (thing_at heap n) (λ x. on_elements x (λ element values. go))
+on_array_or_null heap Null go = go
+on_array_or_null heap (Int n) go = None
+on_array_or_null heap (Long n) go = None
+on_array_or_null heap (Handle h) go = None
+on_array_or_null heap (Pointer c x) go = None
+
 -- a range of the one array is copied into the other, which may be the same
 unfoldable pub copy_elements : Program → State → Frame → List Frame → ℕ → List Value → ℕ → CliType → List Value → CliType → List Value → ℤ → ℤ → ℤ → Option State
 copy_elements p s f fs next rest object from vs to ws i j n =
@@ -190,10 +199,11 @@ array_copy p s f fs next rest arguments =
     on_some (as_int i) (λ i.
     on_some (as_int j) (λ j.
     on_some (as_int n) (λ n.
+    on_array_or_null s.heap source (on_array_or_null s.heap destination (
     on_thing_or p s ArgumentNull source (λ a x.
     on_thing_or p s ArgumentNull destination (λ b y.
     on_elements x (λ from vs.
-    on_elements y (λ to ws. copy_elements p s f fs next rest b from vs to ws i j n))))))))))))
+    on_elements y (λ to ws. copy_elements p s f fs next rest b from vs to ws i j n))))))))))))))
 
 unfoldable pub string_length : Program → State → Frame → List Frame → ℕ → List Value → List Value → Option State
 string_length p s f fs next rest arguments =
@@ -205,7 +215,8 @@ string_chars p s f fs next rest arguments =
     on_top more (λ index none.
     on_some (as_int index) (λ i.
     on_string p s this (λ units.
-    or_raise p s IndexOutOfRange (slice_get units (index_of i)) (λ u. goes p s f fs next (Int (pos u) ∷ rest))))))
+    if is_negative i then raise p s IndexOutOfRange
+    else or_raise p s IndexOutOfRange (slice_get units (index_of i)) (λ u. goes p s f fs next (Int (pos u) ∷ rest))))))
 
 unfoldable pub string_concat : Program → State → Frame → List Frame → ℕ → List Value → List Value → Option State
 string_concat p s f fs next rest arguments =

@@ -15,8 +15,8 @@ use Rattle.cil_opcodes.specs.declared.shape.ShiftOperator.{ShiftOperator}
 use Rattle.cil_opcodes.specs.declared.shape.ShiftOperator.TheVariants.{Left, Right, RightUnsigned}
 use Rattle.cil_opcodes.specs.declared.shape.Comparison.{Comparison}
 use Rattle.cil_opcodes.specs.declared.shape.Comparison.TheVariants.{Equal, Greater, GreaterUnsigned, Less, LessUnsigned}
-use Rattle.mf_types.specs.declared.board.Known.{Known}
-use Rattle.mf_types.specs.declared.board.Known.TheVariants.{Overflow, Arithmetic, DivideByZero}
+use Rattle.board_types.specs.declared.board.Known.{Known}
+use Rattle.board_types.specs.declared.board.Known.TheVariants.{Overflow, Arithmetic, DivideByZero}
 use Rattle.machine.specs.Data.{Id, CliType, PlaceType, Plain, To, Basic, EnumOf, ClassOf, ValueOf, ArrayOf, Cell, Bits, Refers, bytes_of, cell_of, Value, Int, Long, Null, Object, Handle, Pointer}
 
 -- what an operator gives: a value, an exception, or no case

@@ -1,11 +1,13 @@
 -- Rows on objects: fields, static fields, strings, arrays, boxes and casts (III.4).
-use Rattle.std.specs.Prelude.{ℕ, unsigned_abs, Bool, true, if◌then◌else◌, List, [], ◌∷◌, ◌++◌, length, replicate, Option, Some, None, slice_get, slice_set}
+use Rattle.std.specs.Prelude.{ℕ, unsigned_abs, Bool, true, ◌&&◌, ◌||◌, if◌then◌else◌, List, [], ◌∷◌, ◌++◌, length, replicate, Option, Some, None, is_some, slice_get, slice_set}
 use Rattle.std.specs.Option.{option_map}
-use Rattle.mf_types.specs.declared.board.Known.TheVariants.{IndexOutOfRange, Overflow, InvalidCast, ArrayTypeMismatch}
+use Rattle.board_types.specs.declared.board.Known.TheVariants.{IndexOutOfRange, Overflow, InvalidCast, ArrayTypeMismatch}
+use Rattle.plain_types.specs.declared.elem.Elem.TheVariants as elem
 use Rattle.machine.specs.Data.{Id, id_eq, thing_at, put_thing, end_of, type_of, type_eq, CliType, Basic, EnumOf, ClassOf, ValueOf, ArrayOf, Plain, Cell, Bits, Refers, cell_of, InObject, Value, Int, Long, Null, Object, Handle, Pointer, Thing, Instance, Text, Elements, Boxed, StaticCell, Frame, Literal, Static, State}
 use Rattle.machine.specs.Program.{Program, Access, access_cell}
 use Rattle.machine.specs.Numbers.{is_negative, kept, kept_in, zero_of, as_int}
 use Rattle.machine.specs.Texts.{same_text}
+use Rattle.machine.specs.Natives.{class_of_type}
 use Rattle.machine.specs.Throw.{on_some, goes, raise}
 use Rattle.machine.specs.Rows.{on_top, on_two, on_three, on_thing, on_instance, on_elements, on_cell, or_raise, length_value, index_of, read, write, on_pointer}
 
@@ -116,8 +118,29 @@ store_indirect p s f fs next access =
 
 -- ---- whether a reference is assignable to a type (III.1.8.1.2)
 
+-- whether the classes are there of two types that the test looks up by their names: neither where they are equal, or the other one is
+-- Object
+abbrev pub are_named : Program → CliType → CliType → Bool
+are_named p own type =
+    type_eq own type || (type_eq type (Basic elem.Object) || (is_some (class_of_type p own) && is_some (class_of_type p type)))
+
+abbrev pub elements_named : Option Cell → Option Cell → Bool → Bool
+elements_named (Some Refers) (Some Refers) named = named
+elements_named _ _ named = true
+
+-- whether the test finds each class that it looks up by its name: of arrays it is that of arrays, or those of their elements
+abbrev pub is_named : Program → CliType → CliType → Bool
+is_named p (ArrayOf a) (ArrayOf b) = elements_named (cell_of a) (cell_of b) (is_named p a b)
+is_named p (ArrayOf a) (ClassOf class) = is_some p.array
+is_named p (ArrayOf a) _ = true
+is_named p _ (ArrayOf b) = true
+is_named p own type = are_named p own type
+
+abbrev pub fits_named : Program → CliType → CliType → Option Bool
+fits_named p own type = if is_named p own type then Some (p.fits own type) else None
+
 abbrev pub value_fits : Program → List Thing → CliType → Value → Option Bool
-value_fits p heap type (Object n) = on_some (thing_at heap n) (λ x. option_map (λ own. p.fits own type) (type_of x))
+value_fits p heap type (Object n) = on_some (thing_at heap n) (λ x. on_some (type_of x) (λ own. fits_named p own type))
 value_fits p heap type Null = Some true
 value_fits p heap type (Int n) = Some true
 value_fits p heap type (Long n) = Some true

@@ -6,8 +6,8 @@ use Rattle.cil_opcodes.specs.declared.shape.Operator.{Operator}
 use Rattle.cil_opcodes.specs.declared.shape.UnaryOperator.{UnaryOperator}
 use Rattle.cil_opcodes.specs.declared.shape.ShiftOperator.{ShiftOperator}
 use Rattle.cil_opcodes.specs.declared.shape.Comparison.{Comparison}
-use Rattle.mf_types.specs.declared.board.Known.{Known}
-use Rattle.mf_types.specs.declared.elem.Elem.{Elem}
+use Rattle.board_types.specs.declared.board.Known.{Known}
+use Rattle.plain_types.specs.declared.elem.Elem.{Elem}
 use Rattle.machine.specs.Data.{Id, CliType, PlaceType, Cell, Value, cell_of}
 
 -- how an instruction reads or writes memory: by a kind of cell, or by a type
@@ -20,7 +20,8 @@ access_cell (Exact cell) = Some cell
 access_cell (Typed type) = cell_of type
 
 -- an instruction with its operands resolved: places are those of the method's code, a field of an instance is its owner and its
--- number among the owner's fields, and `rethrow` and `endfinally` have the number of the innermost clause of their kind
+-- number among the owner's fields, and `rethrow` and `endfinally` have the number of the innermost clause of their kind. A target
+-- before the code, which nothing checked has, is the computed one modulo 2 ^ 32: a place past all code
 pub data Instruction : Type 0 where
   Nop : Instruction
   Push : (value : Value) → Instruction
@@ -149,5 +150,7 @@ pub record Program : Type 0 where
   pub known : Known → Option Id
   pub basic : Elem → Option Id
   pub array : Option Id
+  -- System.Exception: only its objects, and those of classes below it, are thrown
+  pub exception : Option Id
   -- the class's full name, in UTF-8
   pub name : Id → List ℕ

@@ -2,8 +2,8 @@
 use Rattle.std.specs.Int.{w32, cast_unsigned, cast_signed}
 use Rattle.std.specs.Prelude.{ℕ, ℤ, ◌%◌, ◌^◌, zero, suc, ◌+◌, ◌==◌, if◌then◌else◌, List, [], ◌∷◌, length, Option, Some, None, slice_get, slice_set}
 use Rattle.std.specs.Option.{option_map}
-use Rattle.mf_types.specs.declared.board.Known.{Known}
-use Rattle.mf_types.specs.declared.board.Known.TheVariants.{NullReference}
+use Rattle.board_types.specs.declared.board.Known.{Known}
+use Rattle.board_types.specs.declared.board.Known.TheVariants.{NullReference}
 use Rattle.machine.specs.Data.{Id, thing_at, put_thing, CliType, PlaceType, Cell, cell_of, Spot, InArgument, InLocal, InObject, Value, Int, Long, Null, Object, Handle, Pointer, Thing, Instance, Text, Elements, Boxed, StaticCell, Frame, State}
 use Rattle.machine.specs.Program.{Program, Method}
 use Rattle.machine.specs.Numbers.{Answer, Gives, Raises, NoCase, kept, same_width}
@@ -107,14 +107,14 @@ method_cells (Some m) = 2 + length m.arguments + length m.locals + m.max_stack +
 abbrev pub frames_cells : Program → List Frame → ℕ
 frames_cells p fs = total (λ f. method_cells (p.method f.method)) fs
 
--- the frame that has so many cells of frames below it
+-- the frame up to and with which the frames have so many cells
 abbrev pub frame_at : Program → List Frame → ℕ → Option Frame
 frame_at p [] depth = None
-frame_at p (f ∷ fs) depth = if frames_cells p fs == depth then Some f else frame_at p fs depth
+frame_at p (f ∷ fs) depth = if frames_cells p (f ∷ fs) == depth then Some f else frame_at p fs depth
 
 abbrev pub put_frame : Program → List Frame → ℕ → Frame → List Frame
 put_frame p [] depth g = []
-put_frame p (f ∷ fs) depth g = if frames_cells p fs == depth then g ∷ fs else f ∷ put_frame p fs depth g
+put_frame p (f ∷ fs) depth g = if frames_cells p (f ∷ fs) == depth then g ∷ fs else f ∷ put_frame p fs depth g
 
 -- ---- what pointers lead to
 
@@ -148,11 +148,11 @@ pub record Written : Type 0 where
 
 abbrev pub write : Program → State → Frame → List Frame → Spot → Value → Option Written
 write p s f fs (InArgument depth n) v =
-    if frames_cells p fs == depth
+    if frames_cells p (f ∷ fs) == depth
     then Some (record { state = s; arguments = slice_set f.arguments n v; locals = f.locals; callers = fs })
     else on_some (frame_at p fs depth) (λ g. Some (record { state = s; arguments = f.arguments; locals = f.locals; callers = put_frame p fs depth (record g { arguments = slice_set g.arguments n v }) }))
 write p s f fs (InLocal depth n) v =
-    if frames_cells p fs == depth
+    if frames_cells p (f ∷ fs) == depth
     then Some (record { state = s; arguments = f.arguments; locals = slice_set f.locals n v; callers = fs })
     else on_some (frame_at p fs depth) (λ g. Some (record { state = s; arguments = f.arguments; locals = f.locals; callers = put_frame p fs depth (record g { locals = slice_set g.locals n v }) }))
 write p s f fs (InObject object n) v =

@@ -34,7 +34,7 @@ act p s f fs next (StoreArgument n) =
 act p s f fs next (LoadArgumentAddress n) =
     on_some (p.method f.method) (λ m.
     on_some (slice_get m.arguments n) (λ type.
-    on_some (place_cell type) (λ cell. goes p s f fs next (Pointer cell (InArgument (frames_cells p fs) n) ∷ f.stack))))
+    on_some (place_cell type) (λ cell. goes p s f fs next (Pointer cell (InArgument (frames_cells p (f ∷ fs)) n) ∷ f.stack))))
 act p s f fs next (LoadLocal n) = on_some (slice_get f.locals n) (λ v. goes p s f fs next (v ∷ f.stack))
 act p s f fs next (StoreLocal n) =
     on_some (p.method f.method) (λ m.
@@ -44,7 +44,7 @@ act p s f fs next (StoreLocal n) =
 act p s f fs next (LoadLocalAddress n) =
     on_some (p.method f.method) (λ m.
     on_some (slice_get m.locals n) (λ type.
-    on_some (place_cell type) (λ cell. goes p s f fs next (Pointer cell (InLocal (frames_cells p fs) n) ∷ f.stack))))
+    on_some (place_cell type) (λ cell. goes p s f fs next (Pointer cell (InLocal (frames_cells p (f ∷ fs)) n) ∷ f.stack))))
 act p s f fs next (Binary operator) = on_two f.stack (λ x y rest. answered p s f fs next rest (binary operator x y))
 act p s f fs next (Shift operator) = on_two f.stack (λ x y rest. on_some (shift operator x y) (λ v. goes p s f fs next (v ∷ rest)))
 act p s f fs next (Unary operator) = on_top f.stack (λ x rest. on_some (unary operator x) (λ v. goes p s f fs next (v ∷ rest)))

@@ -1,8 +1,8 @@
 -- Exceptions: the search for a catch, and the finally blocks on the way (I.12.4.2).
 use Rattle.std.specs.Prelude.{ℕ, suc, Bool, true, false, ◌&&◌, not, nat_le, if◌then◌else◌, List, [], ◌∷◌, ◌++◌, map, length, Option, Some, None, slice_get, slice_set}
 use Rattle.std.specs.Option.{option_map}
-use Rattle.mf_types.specs.declared.board.Known.{Known}
-use Rattle.mf_types.specs.declared.board.Known.TheVariants.{NullReference}
+use Rattle.board_types.specs.declared.board.Known.{Known}
+use Rattle.board_types.specs.declared.board.Known.TheVariants.{NullReference}
 use Rattle.machine.specs.Data.{Id, thing_at, end_of, Value, Int, Long, Null, Object, Handle, Pointer, Thing, Instance, Text, Elements, Boxed, StaticCell, Turn, Finally, EndFrame, Slot, Nothing, Caught, Throwing, Leaving, Frame, State, Threw}
 use Rattle.machine.specs.Program.{Program, Clause, ClauseKind, Catch, Final}
 use Rattle.machine.specs.Numbers.{zero_of}
@@ -122,9 +122,15 @@ unfoldable pub throw_thing : Program → State → ℕ → Option State
 throw_thing p s object =
     on_some (thing_at s.heap object) (λ thing. on_some (thrown_class thing) (λ class. throw p s class object))
 
--- (III.4.31)
+-- an object of System.Exception or of a class below it is thrown (III.4.31)
+unfoldable pub throw_exception : Program → State → ℕ → Option State
+throw_exception p s object =
+    on_some (thing_at s.heap object) (λ thing.
+    on_some (thrown_class thing) (λ class.
+    on_some p.exception (λ top. if p.is_sub class top then throw p s class object else None)))
+
 abbrev pub throw_value : Program → State → Value → Option State
-throw_value p s (Object n) = throw_thing p s n
+throw_value p s (Object n) = throw_exception p s n
 throw_value p s Null = raise p s NullReference
 throw_value p s (Int n) = None
 throw_value p s (Long n) = None

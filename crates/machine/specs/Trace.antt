@@ -1,11 +1,11 @@
 -- Cells, and what a run shows.
 use Rattle.std.specs.Prelude.{ℕ, ℤ, zero, suc, ◌+◌, Bool, true, false, ◌||◌, nat_lt, if◌then◌else◌, List, [], ◌∷◌, length, Option, Some, None}
-use Rattle.mf_types.specs.declared.elem.Elem.TheVariants as elem
+use Rattle.plain_types.specs.declared.elem.Elem.TheVariants as elem
 use Rattle.machine.specs.Data.{Id, CliType, Basic, ArrayOf, PlaceType, Plain, To, type_eq, end_of, Value, Object, Thing, Elements, Frame, State, End, Going, Returned, Threw}
 use Rattle.machine.specs.Program.{Program, Initialiser}
 use Rattle.machine.specs.Throw.{on_some}
 use Rattle.machine.specs.Rows.{frames_cells}
-use Rattle.machine.specs.Calls.{start_frame}
+use Rattle.machine.specs.Calls.{start_frame, if_none}
 use Rattle.machine.specs.Step.{step}
 
 -- of all objects ever made, the static fields accessed, and the live frames
@@ -93,7 +93,7 @@ begun heap frames started =
 abbrev pub started_state : Program → List Thing → Frame → Option Initialiser → Option State
 started_state p heap f None = Some (begun heap (f ∷ []) [])
 started_state p heap f (Some i) =
-    on_some (p.method i.method) (λ n. Some (begun heap (start_frame true i.method n [] ∷ f ∷ []) (i.class ∷ [])))
+    on_some (p.method i.method) (λ n. if_none n.arguments (Some (begun heap (start_frame true i.method n [] ∷ f ∷ []) (i.class ∷ []))))
 
 unfoldable pub start : Program → Option State
 start p =
@@ -105,3 +105,19 @@ start p =
 -- what a run of at most n steps in so many cells shows
 unfoldable pub trace : Program → ℕ → ℕ → Trace
 trace p n most = elim (start p) [ None ↦ record { output = []; finish = NoStart } | Some s ↦ trace_from p most n [] s ]
+
+-- ---- states
+
+abbrev pub on_going : End → Option State → Option State
+on_going Going next = next
+on_going (Returned number) next = None
+on_going (Threw class) next = None
+
+-- the next state of a run, which has none after its end
+abbrev pub next_state : Program → State → Option State
+next_state p s = on_going s.end (step p s)
+
+-- the state of a run after n steps, whatever its cells
+abbrev pub state_after : Program → ℕ → Option State
+state_after p zero = start p
+state_after p (suc n) = on_some (state_after p n) (next_state p)

@@ -17,6 +17,14 @@ module _ {B B' : Type 0} (g : B → B') where
       go None = refl
       go (Some x) = f x
 
+  -- the same, where the answer is known
+  pub some_law_at : {A A' : Type 0} (h : A → A') (o : Option A) (o' : Option A') (k : A → Option B) (k' : A' → Option B') → o' ≡ option_map h o → ((x : A) → o ≡ Some x → k' (h x) ≡ option_map g (k x)) → on_some o' k' ≡ option_map g (on_some o k)
+  some_law_at h o o' k k' e f = ap (λ q. on_some q k') e ∙ go o f
+    where
+      go : (o : Option _) → ((x : _) → o ≡ Some x → k' (h x) ≡ option_map g (k x)) → on_some (option_map h o) k' ≡ option_map g (on_some o k)
+      go None f = refl
+      go (Some x) f = f x refl
+
   -- the same answer
   pub same_law : {A : Type 0} (o o' : Option A) (k : A → Option B) (k' : A → Option B') → o' ≡ o → ((x : A) → k' x ≡ option_map g (k x)) → on_some o' k' ≡ option_map g (on_some o k)
   same_law o o' k k' e f = ap (λ q. on_some q k') e ∙ go o

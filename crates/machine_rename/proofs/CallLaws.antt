@@ -1,24 +1,29 @@
 -- Calls, constructors and returns under a renaming.
-use Rattle.std.proofs.Common.{◌≡◌, ℕ, Bool, true, false, List, [], ◌∷◌, ◌++◌, map, length, replicate, Option, Some, None, refl, sym, ap, ◌∙◌}
+use Rattle.std.proofs.Common.{◌≡◌, ℕ, Bool, true, false, List, [], ◌∷◌, ◌++◌, map, length, replicate, Option, Some, None, refl, sym, ap, ◌∙◌, inr}
+use Rattle.std.specs.Prelude.{nat_lt}
 use Rattle.std.specs.Option.{option_map}
 use Rattle.machine.specs.Data.{Id, end_of, PlaceType, Plain, To, cell_of, InObject, Value, Object, Pointer, Thing, Instance, Text, Elements, Boxed, StaticCell, Slot, Nothing, Frame, State}
 use Rattle.machine.specs.Program.{Program, Initialiser, Method, Body, Code, Native, Missing}
 use Rattle.machine.specs.Numbers.{zero_of, zero_place}
 use Rattle.machine.specs.Throw.{on_some, goes}
 use Rattle.machine.specs.Rows.{keep_all}
-use Rattle.machine.specs.Calls.{start_frame, starts, enter, invoke, call, receiver, call_virtual, construct, new_object, with_result, hand_back, return_value, start_code, start_class}
+use Rattle.machine.specs.Calls.{if_none, if_room, start_frame, starts, enter, invoke, call, receiver, call_virtual, construct, new_object, with_result, hand_back, return_value, start_code, start_class}
 use Rattle.machine_rename.specs.Rename.{Renaming, Answers, type_to, place_type_to, value_to, thing_to, frame_to, state_to, initialiser_to, line_to, clause_to, method_to}
-use Rattle.machine_rename.proofs.Base.{cell_law, some_law, same_law, top_law, length-map_lem, end_law, goes_law}
+use Rattle.machine_rename.proofs.Base.{cell_law, if_law, some_law, some_law_at, same_law, top_law, length-map_lem, end_law, goes_law}
 use Rattle.machine_rename.proofs.ThrowLaws.{zero_place_law, made_law}
 use Rattle.machine_rename.proofs.ValueLaws.{keep_all_law, taken_to, taken_law, rest_law, result_law, with_result_law, number_law, nothings_law}
 use Rattle.machine_rename.proofs.RowLaws.{type_of_law, thing_law}
-use Rattle.machine_rename.proofs.ObjectLaws.{Rows}
-use Rattle.machine_rename.proofs.NativeLaws.{class_of_type_law, native_law}
+use Rattle.machine_rename.proofs.ObjectLaws.{Rows, class_of_type_law}
+use Rattle.machine_rename.proofs.NativeLaws.{native_law}
 
 module _ (r : Renaming) where
   places_law : (ks : List PlaceType) → map (value_to r) (map zero_place ks) ≡ map zero_place (map (place_type_to r) ks)
   places_law [] = refl
   places_law (k ∷ ks) = ap (λ v. v ∷ map (value_to r) (map zero_place ks)) (zero_place_law r k) ∙ ap (λ vs. zero_place (place_type_to r k) ∷ vs) (places_law ks)
+
+  pub if_none_law : {A A' : Type 0} (h : A → A') (xs : List A) (o' o : Option State) → o' ≡ option_map (state_to r) o → if_none (map h xs) o' ≡ option_map (state_to r) (if_none xs o)
+  if_none_law h [] q o e = e
+  if_none_law h (x ∷ xs) q o e = refl
 
   receiver_law : (ks : List PlaceType) (n : ℕ) (x : Thing) → receiver (map (place_type_to r) ks) n (thing_to r x) ≡ option_map (value_to r) (receiver ks n x)
   receiver_law [] n x = refl
@@ -44,27 +49,35 @@ module _ (r : Renaming) (low high : Program) (a : Answers r low high) where
       ∙ ap (λ n. frame (r.place id 0) (map (value_to r) (map zero_place m.locals)) (replicate n Nothing)) (length-map_lem (clause_to r id) m.clauses)
       ∙ ap (frame (r.place id 0) (map (value_to r) (map zero_place m.locals))) (sym (nothings_law r id (length m.clauses)))
 
+  room_law : (f : Frame) (stack : List Value) (o : Option PlaceType) (x' x : Option State) → x' ≡ option_map (state_to r) x → if_room high (frame_to r f) (map (value_to r) stack) (option_map (place_type_to r) o) x' ≡ option_map (state_to r) (if_room low f stack o x)
+  room_law f stack None x' x e = e
+  room_law f stack (Some k) x' x e =
+      some_law (state_to r) (method_to r f.method) _ _ _ _ (a.method f.method) (λ m.
+      if_law (state_to r) _ _ _ _ _ _ (ap (λ n. nat_lt n m.max_stack) (length-map_lem (value_to r) stack)) e refl)
+
   starts_law : (s : State) (f : Frame) (fs : List Frame) (stack : List Value) (id : Id) (m : Method) (arguments : List Value) → starts high (state_to r s) (frame_to r f) (map (frame_to r) fs) (map (value_to r) stack) (r.method id) (method_to r id m) (map (value_to r) arguments) ≡ option_map (state_to r) (starts low s f fs stack id m arguments)
   unfolding starts
   starts_law s f fs stack id m arguments =
+      room_law f stack m.returns _ _ (
       some_law (state_to r) (state_to r) _ _ _ _ (goes_law r low high a s f fs f.place stack) (λ t.
-      ap (λ g. Some (record (state_to r t) { frames = g ∷ map (frame_to r) t.frames })) (start_frame_law false id m arguments))
+      ap (λ g. Some (record (state_to r t) { frames = g ∷ map (frame_to r) t.frames })) (start_frame_law false id m arguments)))
 
-  enter_law : (s : State) (f : Frame) (fs : List Frame) (next : ℕ) (rest : List Value) (id : Id) (m : Method) (arguments : List Value) (body : Body) → enter high (state_to r s) (frame_to r f) (map (frame_to r) fs) (r.place f.method next) (map (value_to r) rest) (r.method id) (method_to r id m) (map (value_to r) arguments) body ≡ option_map (state_to r) (enter low s f fs next rest id m arguments body)
-  enter_law s f fs next rest id m arguments Code = starts_law s f fs rest id m arguments
-  enter_law s f fs next rest id m arguments (Native name) = native_law r low high a name s f fs next rest arguments
-  enter_law s f fs next rest id m arguments Missing = refl
+  enter_law : (s : State) (f : Frame) (fs : List Frame) (next : ℕ) (rest : List Value) (id : Id) (m : Method) (arguments : List Value) (body : Body) → low.method id ≡ Some m → m.body ≡ body → enter high (state_to r s) (frame_to r f) (map (frame_to r) fs) (r.place f.method next) (map (value_to r) rest) (r.method id) (method_to r id m) (map (value_to r) arguments) body ≡ option_map (state_to r) (enter low s f fs next rest id m arguments body)
+  enter_law s f fs next rest id m arguments Code e is = starts_law s f fs rest id m arguments
+  enter_law s f fs next rest id m arguments (Native name) e is =
+      native_law r low high a name (λ k h. inr (record { id = id; method = m; name = name; there = e; is = is; throwing = h })) s f fs next rest arguments
+  enter_law s f fs next rest id m arguments Missing e is = refl
 
-  invoke_law : (s : State) (f : Frame) (fs : List Frame) (next : ℕ) (rest : List Value) (id : Id) (m : Method) (given : List Value) → invoke high (state_to r s) (frame_to r f) (map (frame_to r) fs) (r.place f.method next) (map (value_to r) rest) (r.method id) (method_to r id m) (map (value_to r) given) ≡ option_map (state_to r) (invoke low s f fs next rest id m given)
+  invoke_law : (s : State) (f : Frame) (fs : List Frame) (next : ℕ) (rest : List Value) (id : Id) (m : Method) (given : List Value) → low.method id ≡ Some m → invoke high (state_to r s) (frame_to r f) (map (frame_to r) fs) (r.place f.method next) (map (value_to r) rest) (r.method id) (method_to r id m) (map (value_to r) given) ≡ option_map (state_to r) (invoke low s f fs next rest id m given)
   unfolding invoke
-  invoke_law s f fs next rest id m given =
-      some_law (state_to r) (map (value_to r)) _ _ _ _ (keep_all_law r m.arguments given) (λ arguments. enter_law s f fs next rest id m arguments m.body)
+  invoke_law s f fs next rest id m given e =
+      some_law (state_to r) (map (value_to r)) _ _ _ _ (keep_all_law r m.arguments given) (λ arguments. enter_law s f fs next rest id m arguments m.body e refl)
 
   pub call_law : (id : Id) → Rows r low high a (λ p s f fs next. call p s f fs next (r.method id)) (λ p s f fs next. call p s f fs next id)
   unfolding call
   call_law id s f fs next =
-      some_law (state_to r) (method_to r id) _ _ _ _ (a.method id) (λ m.
-      some_law (state_to r) (taken_to r) _ _ _ _ (taken_law r m f.stack) (λ t. invoke_law s f fs next t.rest id m t.arguments))
+      some_law_at (state_to r) (method_to r id) _ _ _ _ (a.method id) (λ m e.
+      some_law (state_to r) (taken_to r) _ _ _ _ (taken_law r m f.stack) (λ t. invoke_law s f fs next t.rest id m t.arguments e))
 
   pub call_virtual_law : (id : Id) → Rows r low high a (λ p s f fs next. call_virtual p s f fs next (r.method id)) (λ p s f fs next. call_virtual p s f fs next id)
   unfolding call_virtual
@@ -77,9 +90,9 @@ module _ (r : Renaming) (low high : Program) (a : Answers r low high) where
       some_law (state_to r) (type_to r) _ _ _ _ (type_of_law r thing) (λ type.
       some_law (state_to r) r.type _ _ _ _ (class_of_type_law r low high a type) (λ class.
       some_law (state_to r) r.method _ _ _ _ (a.target class id) (λ found.
-      some_law (state_to r) (method_to r found) _ _ _ _ (a.method found) (λ b.
+      some_law_at (state_to r) (method_to r found) _ _ _ _ (a.method found) (λ b e.
       some_law (state_to r) (value_to r) _ _ _ _ (receiver_law r b.arguments n thing) (λ self.
-      invoke_law s f fs next t.rest found b (self ∷ others)))))))))))
+      invoke_law s f fs next t.rest found b (self ∷ others) e))))))))))
 
   construct_law : (s : State) (f : Frame) (fs : List Frame) (stack : List Value) (id : Id) (m : Method) (arguments : List Value) (body : Body) → construct high (state_to r s) (frame_to r f) (map (frame_to r) fs) (map (value_to r) stack) (r.method id) (method_to r id m) (map (value_to r) arguments) body ≡ option_map (state_to r) (construct low s f fs stack id m arguments body)
   construct_law s f fs stack id m arguments Code = starts_law s f fs stack id m arguments
@@ -114,7 +127,8 @@ module _ (r : Renaming) (low high : Program) (a : Answers r low high) where
 
   start_code_law : (s : State) (i : Initialiser) (m : Method) (body : Body) → start_code high (state_to r s) (initialiser_to r i) (method_to r i.method m) body ≡ option_map (state_to r) (start_code low s i m body)
   start_code_law s i m Code =
-      ap (λ g. Some (record (state_to r s) { started = r.type i.class ∷ map r.type s.started; frames = g ∷ map (frame_to r) s.frames })) (start_frame_law true i.method m [])
+      if_none_law r (place_type_to r) m.arguments _ _
+      (ap (λ g. Some (record (state_to r s) { started = r.type i.class ∷ map r.type s.started; frames = g ∷ map (frame_to r) s.frames })) (start_frame_law true i.method m []))
   start_code_law s i m (Native name) = refl
   start_code_law s i m Missing = refl
 

@@ -2,12 +2,12 @@
 use Rattle.std.proofs.Common.{◌≡◌, ℕ, ◌+◌, ◌-◌, ◌*◌, ◌/◌, ◌≤◌, Bool, true, false, List, [], ◌∷◌, ◌++◌, map, length, Option, Some, None, refl, sym, ap, ◌∙◌, subst, arith}
 use Rattle.std.specs.Prelude.{if◌then◌else◌, ◌==◌, nat_le, nat_lt, slice_get, slice_set}
 use Rattle.std.proofs.lemmas.List.{length-set}
-use Rattle.mf_types.specs.declared.board.Known.{Known}
-use Rattle.mf_types.specs.declared.board.Known.TheVariants.{NullReference}
+use Rattle.board_types.specs.declared.board.Known.{Known}
+use Rattle.board_types.specs.declared.board.Known.TheVariants.{NullReference}
 use Rattle.machine.specs.Data.{Id, thing_size, end_of, thing_at, put_thing, CliType, Cell, cell_of, element_bytes, Spot, InArgument, InLocal, InObject, Value, Int, Long, Null, Object, Handle, Pointer, Thing, Instance, Text, Elements, Boxed, StaticCell, Turn, Finally, EndFrame, Slot, Nothing, Caught, Throwing, Leaving, Frame, State}
 use Rattle.machine.specs.Program.{Program}
 use Rattle.machine.specs.Numbers.{Answer, Gives, Raises, NoCase, zero_of, same_width}
-use Rattle.machine.specs.Throw.{on_some, goes, Route, enter_clause, follow, taken, throw, raise, leave, take_up, thrown_class, throw_thing, throw_value, throw_again, search_frames}
+use Rattle.machine.specs.Throw.{on_some, goes, Route, enter_clause, follow, taken, throw, raise, leave, take_up, thrown_class, throw_thing, throw_value, throw_again, search_frames, throw_exception}
 use Rattle.machine.specs.Rows.{on_top, on_two, on_three, answered, or_raise, on_thing_or, on_thing, on_instance, on_elements, on_cell, frame_at, frames_cells, with_value, Written, write, on_pointer}
 
 pub end_of-append : (xs : List Thing) (x : Thing) → end_of xs ≤ end_of (xs ++ x ∷ [])
@@ -147,8 +147,15 @@ module _ (n : ℕ) where
     throw_thing_grows s object h =
         some_grows (thing_at s.heap object) _ (λ thing e. some_grows (thrown_class thing) _ (λ class e. throw_grows s class object h))
 
+    throw_exception_grows : (s : State) (object : ℕ) → n ≤ end_of s.heap → Grows n (throw_exception p s object)
+    unfolding throw_exception
+    throw_exception_grows s object h =
+        some_grows (thing_at s.heap object) _ (λ thing e.
+        some_grows (thrown_class thing) _ (λ class e.
+        some_grows p.exception _ (λ top e. if_grows (p.is_sub class top) _ _ (λ y. throw_grows s class object h) (λ y. none_grows))))
+
     pub throw_value_grows : (s : State) (v : Value) → n ≤ end_of s.heap → Grows n (throw_value p s v)
-    throw_value_grows s (Object i) h = throw_thing_grows s i h
+    throw_value_grows s (Object i) h = throw_exception_grows s i h
     throw_value_grows s Null h = raise_grows s NullReference h
     throw_value_grows s (Int i) h = none_grows
     throw_value_grows s (Long i) h = none_grows
@@ -202,8 +209,8 @@ module _ (n : ℕ) where
 
     pub write_grows : (s : State) (f : Frame) (fs : List Frame) (x : Spot) (v : Value) → n ≤ end_of s.heap → (w : Written) → write p s f fs x v ≡ Some w → n ≤ end_of w.state.heap
     write_grows s f fs (InArgument depth i) v h =
-        if_written (frames_cells p fs == depth) _ _ (written_is _ h) (written_some (frame_at p fs depth) _ (λ g e. h))
+        if_written (frames_cells p (f ∷ fs) == depth) _ _ (written_is _ h) (written_some (frame_at p fs depth) _ (λ g e. h))
     write_grows s f fs (InLocal depth i) v h =
-        if_written (frames_cells p fs == depth) _ _ (written_is _ h) (written_some (frame_at p fs depth) _ (λ g e. h))
+        if_written (frames_cells p (f ∷ fs) == depth) _ _ (written_is _ h) (written_some (frame_at p fs depth) _ (λ g e. h))
     write_grows s f fs (InObject object i) v h =
         written_some (thing_at s.heap object) _ (λ x e. kept_up s.heap object x (with_value x i v) e (with_value_size x i v) h)

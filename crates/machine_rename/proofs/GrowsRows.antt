@@ -8,16 +8,16 @@ use Rattle.std.proofs.lemmas.List.{length-set, length-append, length-take-le, le
 use Rattle.std.proofs.lemmas.Bool.{ltb-false}
 use Rattle.cil_opcodes.specs.declared.shape.IntegerType.{IntegerType}
 use Rattle.cil_opcodes.specs.declared.shape.IntegerType.TheVariants.{U2}
-use Rattle.mf_types.specs.declared.board.Known.TheVariants.{IndexOutOfRange, Overflow, InvalidCast, ArrayTypeMismatch, Argument, ArgumentNull, ArgumentOutOfRange}
-use Rattle.machine.specs.Data.{Id, id_eq, thing_size, end_of, thing_at, put_thing, type_of, type_eq, CliType, Basic, EnumOf, ClassOf, ValueOf, ArrayOf, Plain, Cell, Bits, Refers, cell_of, bytes_of, InArgument, InLocal, InObject, Value, Int, Null, Object, Pointer, Thing, Instance, Text, Elements, Boxed, StaticCell, Frame, State}
+use Rattle.board_types.specs.declared.board.Known.TheVariants.{IndexOutOfRange, Overflow, InvalidCast, ArrayTypeMismatch, Argument, ArgumentNull, ArgumentOutOfRange}
+use Rattle.machine.specs.Data.{Id, id_eq, thing_size, end_of, thing_at, put_thing, type_of, type_eq, CliType, Basic, EnumOf, ClassOf, ValueOf, ArrayOf, Plain, Cell, Bits, Refers, cell_of, bytes_of, InArgument, InLocal, InObject, Value, Int, Null, Object, Pointer, Thing, Instance, Text, Elements, Boxed, StaticCell, Frame, State, Long, PlaceType, Handle}
 use Rattle.machine.specs.Program.{Program, Access, access_cell, Instruction, Nop, Push, Dup, Pop, LoadArgument, StoreArgument, LoadArgumentAddress, LoadLocal, StoreLocal, LoadLocalAddress, Binary, Shift, Unary, Compare, Convert, ConvertChecked, Branch, BranchIf, BranchCompare, Switch, Call, CallVirtual, NewObject, Return, LoadField, StoreField, LoadFieldAddress, LoadStatic, StoreStatic, LoadStaticAddress, LoadText, LoadIndirect, StoreIndirect, NewArray, LoadLength, LoadElement, StoreElement, LoadElementAddress, CastClass, IsInstance, Box, Unbox, UnboxAny, Throw, Rethrow, Leave, EndFinally, Initialiser, Line, Method, Body, Code, Native, Missing, NativeName, ObjectToString, EnumEquals, EnumToString, ArrayLength, ArrayCopy, StringLength, StringChars, StringConcat, StringSubstring, StringEquals, StringCompare, StringFromChars, StringFromChar, NumberSigned, NumberUnsigned, InitializeArray, DebugPrint}
 use Rattle.machine.specs.Numbers.{agree, of_bool, is_negative, binary, shift, unary, compare, branch_compare, convert, convert_checked, truth, kept, kept_in, zero_of, as_int, as_long, as_handle}
 use Rattle.machine.specs.Texts.{printed, decimal_text}
 use Rattle.machine.specs.Throw.{on_some, goes, left}
 use Rattle.machine.specs.Rows.{take_arguments, keep_all, on_frames, length_value, index_of, frames_cells, read, write}
 use Rattle.machine.specs.Objects.{load_field, store_field, load_field_address, static_object, static_of, static_at, Reached, reached, static_reached, load_static, store_static, load_static_address, load_text, literal_object, load_indirect, store_indirect, value_fits, new_array, load_length, load_element, store_element, is_exact, load_element_address, cast_class, is_instance, box_value, boxed_number, unbox, unbox_value, unbox_any}
-use Rattle.machine.specs.Natives.{class_of_type, name_of, units_of, text_at, or_empty, texts_equal, texts_compared, unit_of, new_text, is_range, piece, spliced, on_enum, equals_box, number_text, copy_elements, numbers_of, initialise, on_string, object_to_string, enum_equals, enum_to_string, array_length, array_copy, string_length, string_chars, string_concat, string_substring, string_equals, string_compare, string_from_chars, string_from_char, number_signed, number_unsigned, initialize_array, debug_print, native}
-use Rattle.machine.specs.Calls.{start_frame, starts, enter, invoke, call, receiver, call_virtual, construct, new_object, result_of, with_result, number_of, hand_back, return_value, start_code, start_class}
+use Rattle.machine.specs.Natives.{on_array_or_null, class_of_type, name_of, units_of, text_at, or_empty, texts_equal, texts_compared, unit_of, new_text, is_range, piece, spliced, on_enum, equals_box, number_text, copy_elements, numbers_of, initialise, on_string, object_to_string, enum_equals, enum_to_string, array_length, array_copy, string_length, string_chars, string_concat, string_substring, string_equals, string_compare, string_from_chars, string_from_char, number_signed, number_unsigned, initialize_array, debug_print, native}
+use Rattle.machine.specs.Calls.{if_none, if_room, start_frame, starts, enter, invoke, call, receiver, call_virtual, construct, new_object, result_of, with_result, number_of, hand_back, return_value, start_code, start_class}
 use Rattle.machine.specs.Trace.{cells}
 use Rattle.machine.specs.Step.{branch_if, place_cell, act, after_start, step}
 use Rattle.machine_rename.proofs.GrowsBase.{Grows, elements_size, none_grows, state_grows, some_grows, if_grows, top_grows, two_grows, three_grows, elements_grows, on_cell_grows, pointer_grows, goes_grows, more, kept_up, raise_grows, leave_grows, take_up_grows, throw_value_grows, throw_again_grows, answered_grows, or_raise_grows, thing_or_grows, thing_grows, instance_grows, write_grows}
@@ -294,6 +294,14 @@ module _ (n : ℕ) (p : Program) where
       if_grows n (nat_lt (length bytes) (length vs * bytes_of integer)) _ _ (λ y. raise_grows n p s Argument h)
       (λ y. put_elements_grows s f fs next rest object x t vs (numbers_of integer (length vs) bytes) e q (numbers_length integer (length vs) bytes) h)
 
+  array_or_null_grows : (s : State) (v : Value) (o : Option State) → Grows n o → Grows n (on_array_or_null s.heap v o)
+  array_or_null_grows s (Object i) o g = some_grows n (thing_at s.heap i) _ (λ x e. elements_grows n x _ (λ t ws q. g))
+  array_or_null_grows s Null o g = g
+  array_or_null_grows s (Int i) o g = none_grows n
+  array_or_null_grows s (Long i) o g = none_grows n
+  array_or_null_grows s (Handle i) o g = none_grows n
+  array_or_null_grows s (Pointer c x) o g = none_grows n
+
   native_grows : (s : State) (f : Frame) (fs : List Frame) (next : ℕ) (rest : List Value) (name : NativeName) (vs : List Value) → n ≤ end_of s.heap → Grows n (native p s f fs next rest name vs)
   unfolding object_to_string enum_equals enum_to_string array_length array_copy string_length string_chars string_concat string_substring string_equals string_compare string_from_chars string_from_char number_signed number_unsigned initialize_array debug_print
   native_grows s f fs next rest ObjectToString vs h =
@@ -321,10 +329,11 @@ module _ (n : ℕ) (p : Program) where
       some_grows n (as_int i) _ (λ i e.
       some_grows n (as_int j) _ (λ j e.
       some_grows n (as_int k) _ (λ k e.
+      array_or_null_grows s source _ (array_or_null_grows s destination _ (
       thing_or_grows n p s ArgumentNull source _ h (λ a x e.
       thing_or_grows n p s ArgumentNull destination _ h (λ b y e.
       elements_grows n x _ (λ t us q.
-      elements_grows n y _ (λ u ws q. copy_elements_grows s f fs next rest b y t us u ws i j k e q h))))))))))))
+      elements_grows n y _ (λ u ws q. copy_elements_grows s f fs next rest b y t us u ws i j k e q h))))))))))))))
   native_grows s f fs next rest StringLength vs h =
       top_grows n vs _ (λ this none. string_grows s this _ h (λ units. goes_grows n p s f fs next (length_value (length units) ∷ rest) h))
   native_grows s f fs next rest StringChars vs h =
@@ -332,7 +341,8 @@ module _ (n : ℕ) (p : Program) where
       top_grows n others _ (λ index none.
       some_grows n (as_int index) _ (λ i e.
       string_grows s this _ h (λ units.
-      or_raise_grows n p s IndexOutOfRange (slice_get units (index_of i)) _ h (λ u e. goes_grows n p s f fs next (Int (pos u) ∷ rest) h)))))
+      if_grows n (is_negative i) _ _ (λ y. raise_grows n p s IndexOutOfRange h)
+      (λ y. or_raise_grows n p s IndexOutOfRange (slice_get units (index_of i)) _ h (λ u e. goes_grows n p s f fs next (Int (pos u) ∷ rest) h))))))
   native_grows s f fs next rest StringConcat vs h =
       top_grows n vs _ (λ a others.
       top_grows n others _ (λ b none.
@@ -383,11 +393,17 @@ module _ (n : ℕ) (p : Program) where
 
   -- ---- methods
 
+  room_grows : (f : Frame) (stack : List Value) (k : Option PlaceType) (o : Option State) → Grows n o → Grows n (if_room p f stack k o)
+  room_grows f stack None o h = h
+  room_grows f stack (Some k) o h =
+      some_grows n (p.method f.method) _ (λ m e. if_grows n (nat_lt (length stack) m.max_stack) _ _ (λ w. h) (λ w. none_grows n))
+
   starts_grows : (s : State) (f : Frame) (fs : List Frame) (stack : List Value) (id : Id) (m : Method) (vs : List Value) → n ≤ end_of s.heap → Grows n (starts p s f fs stack id m vs)
   unfolding starts
   starts_grows s f fs stack id m vs h =
+      room_grows f stack m.returns _ (
       some_grows n (goes p s f fs f.place stack) _ (λ t e.
-      state_grows n (record t { frames = start_frame false id m vs ∷ t.frames }) (goes_grows n p s f fs f.place stack h t e))
+      state_grows n (record t { frames = start_frame false id m vs ∷ t.frames }) (goes_grows n p s f fs f.place stack h t e)))
 
   enter_grows : (s : State) (f : Frame) (fs : List Frame) (next : ℕ) (rest : List Value) (id : Id) (m : Method) (vs : List Value) (body : Body) → n ≤ end_of s.heap → Grows n (enter p s f fs next rest id m vs body)
   enter_grows s f fs next rest id m vs Code h = starts_grows s f fs rest id m vs h
@@ -446,7 +462,11 @@ module _ (n : ℕ) (p : Program) where
       some_grows n (p.method f.method) _ (λ m e. some_grows n (result_of m.returns f.stack) _ (λ v e. hand_back_grows s f.initialiser v fs h))
 
   start_code_grows : (s : State) (i : Initialiser) (m : Method) (body : Body) → n ≤ end_of s.heap → Grows n (start_code p s i m body)
-  start_code_grows s i m Code h = state_grows n _ h
+  start_code_grows s i m Code h = at m.arguments
+    where
+      at : (ks : List PlaceType) → Grows n (if_none ks (Some (record s { started = i.class ∷ s.started; frames = start_frame true i.method m [] ∷ s.frames })))
+      at [] = state_grows n _ h
+      at (k ∷ ks) = none_grows n
   start_code_grows s i m (Native name) h = none_grows n
   start_code_grows s i m Missing h = none_grows n
 
@@ -474,7 +494,7 @@ module _ (n : ℕ) (p : Program) where
   act_grows s f fs next (LoadArgumentAddress i) h =
       some_grows n (p.method f.method) _ (λ m e.
       some_grows n (slice_get m.arguments i) _ (λ t e.
-      some_grows n (place_cell t) _ (λ c e. goes_grows n p s f fs next (Pointer c (InArgument (frames_cells p fs) i) ∷ f.stack) h)))
+      some_grows n (place_cell t) _ (λ c e. goes_grows n p s f fs next (Pointer c (InArgument (frames_cells p (f ∷ fs)) i) ∷ f.stack) h)))
   act_grows s f fs next (LoadLocal i) h = some_grows n (slice_get f.locals i) _ (λ v e. goes_grows n p s f fs next (v ∷ f.stack) h)
   act_grows s f fs next (StoreLocal i) h =
       some_grows n (p.method f.method) _ (λ m e.
@@ -484,7 +504,7 @@ module _ (n : ℕ) (p : Program) where
   act_grows s f fs next (LoadLocalAddress i) h =
       some_grows n (p.method f.method) _ (λ m e.
       some_grows n (slice_get m.locals i) _ (λ t e.
-      some_grows n (place_cell t) _ (λ c e. goes_grows n p s f fs next (Pointer c (InLocal (frames_cells p fs) i) ∷ f.stack) h)))
+      some_grows n (place_cell t) _ (λ c e. goes_grows n p s f fs next (Pointer c (InLocal (frames_cells p (f ∷ fs)) i) ∷ f.stack) h)))
   act_grows s f fs next (Binary operator) h = two_grows n f.stack _ (λ x y rest. answered_grows n p s f fs next rest (binary operator x y) h)
   act_grows s f fs next (Shift operator) h =
       two_grows n f.stack _ (λ x y rest. some_grows n (shift operator x y) _ (λ v e. goes_grows n p s f fs next (v ∷ rest) h))

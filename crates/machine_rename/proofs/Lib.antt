@@ -9,6 +9,7 @@ pub mod StepLaws
 pub mod TraceLaws
 pub mod Wider
 pub mod Whole
+pub mod StateLaws
 pub mod AgainLaws
 pub mod LeaveLaws
 pub mod PlaceLaws

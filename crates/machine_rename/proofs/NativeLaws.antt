@@ -1,19 +1,20 @@
 -- The natives under a renaming.
-use Rattle.std.proofs.Common.{◌≡◌, ℕ, zero, suc, ◌+◌, ◌*◌, ◌&&◌, ◌||◌, List, [], ◌∷◌, ◌++◌, map, take, drop, length, Option, Some, None, refl, sym, ap, ◌∙◌}
+use Rattle.std.proofs.Common.{◌≡◌, ℕ, zero, suc, ◌+◌, ◌*◌, true, ◌&&◌, ◌||◌, List, [], ◌∷◌, ◌++◌, map, take, drop, length, Option, Some, None, refl, sym, ap, ◌∙◌, inl}
 use Rattle.std.specs.Prelude.{ℤ, pos, unsigned_abs, slice_get, decimal, nat_lt}
 use Rattle.std.specs.Option.{option_map}
 use Rattle.std.specs.Int.{w64, cast_unsigned}
 use Rattle.std.proofs.lemmas.List.{map-append}
 use Rattle.cil_opcodes.specs.declared.shape.IntegerType.{IntegerType}
 use Rattle.cil_opcodes.specs.declared.shape.IntegerType.TheVariants.{U2}
-use Rattle.mf_types.specs.declared.board.Known.TheVariants.{IndexOutOfRange, ArrayTypeMismatch, Argument, ArgumentNull, ArgumentOutOfRange}
+use Rattle.board_types.specs.declared.board.Known.{Known}
+use Rattle.board_types.specs.declared.board.Known.TheVariants.{IndexOutOfRange, ArrayTypeMismatch, Argument, ArgumentNull, ArgumentOutOfRange}
 use Rattle.machine.specs.Data.{Id, put_thing, type_eq, CliType, Basic, EnumOf, ClassOf, ValueOf, ArrayOf, Cell, Bits, Refers, cell_of, bytes_of, Value, Int, Long, Null, Object, Handle, Pointer, Thing, Instance, Text, Elements, Boxed, StaticCell, Frame, State}
 use Rattle.machine.specs.Program.{Program, NativeName, ObjectToString, EnumEquals, EnumToString, ArrayLength, ArrayCopy, StringLength, StringChars, StringConcat, StringSubstring, StringEquals, StringCompare, StringFromChars, StringFromChar, NumberSigned, NumberUnsigned, InitializeArray, DebugPrint}
 use Rattle.machine.specs.Numbers.{of_bool, cut, little_endian, number_in}
 use Rattle.machine.specs.Texts.{printed, units_of_name, with_brackets, decimal_text}
 use Rattle.machine.specs.Rows.{length_value, index_of}
-use Rattle.machine.specs.Natives.{class_of_type, name_of, units_of, text_at, or_empty, texts_equal, texts_compared, unit_of, new_text, is_range, piece, spliced, on_enum, same_number_value, is_box_of, equals_box, number_text, copy_elements, numbers_of, initialise, on_string, object_to_string, enum_equals, enum_to_string, array_length, array_copy, string_length, string_chars, string_concat, string_substring, string_equals, string_compare, string_from_chars, string_from_char, number_signed, number_unsigned, initialize_array, debug_print, native}
-use Rattle.machine_rename.specs.Rename.{Renaming, Answers, type_to, value_to, thing_to, frame_to, state_to}
+use Rattle.machine.specs.Natives.{on_array_or_null, name_of, units_of, text_at, or_empty, texts_equal, texts_compared, unit_of, new_text, is_range, piece, spliced, on_enum, same_number_value, is_box_of, equals_box, number_text, copy_elements, numbers_of, initialise, on_string, object_to_string, enum_equals, enum_to_string, array_length, array_copy, string_length, string_chars, string_concat, string_substring, string_equals, string_compare, string_from_chars, string_from_char, number_signed, number_unsigned, initialize_array, debug_print, native}
+use Rattle.machine_rename.specs.Rename.{Renaming, Answers, Asked, throws, type_to, value_to, thing_to, frame_to, state_to}
 use Rattle.machine_rename.proofs.Base.{cell_law, some_law, same_law, some_eq, if_law, top_law, length-map_lem, thing_at_law, put_thing_law, goes_law}
 use Rattle.machine_rename.proofs.ThrowLaws.{raise_law}
 use Rattle.machine_rename.proofs.ValueLaws.{cut_law, as_int_law, as_long_law, as_handle_law}
@@ -107,13 +108,6 @@ module _ (r : Renaming) where
       ∙ ap (λ vs. value_to r (cut integer (little_endian (take (bytes_of integer) bytes))) ∷ vs) (numbers_law integer n (drop (bytes_of integer) bytes))
 
 module _ (r : Renaming) (low high : Program) (a : Answers r low high) where
-  pub class_of_type_law : (t : CliType) → class_of_type high (type_to r t) ≡ option_map r.type (class_of_type low t)
-  class_of_type_law (Basic e) = a.basic e
-  class_of_type_law (EnumOf e class) = refl
-  class_of_type_law (ClassOf class) = refl
-  class_of_type_law (ValueOf class) = refl
-  class_of_type_law (ArrayOf element) = a.array
-
   name_of_law : (t : CliType) → name_of high (type_to r t) ≡ name_of low t
   name_of_law (ArrayOf element) = ap (option_map with_brackets) (name_of_law element)
   name_of_law (Basic e) = ap (option_map (λ class. units_of_name (high.name class))) (a.basic e) ∙ go (low.basic e)
@@ -148,6 +142,10 @@ module _ (r : Renaming) (low high : Program) (a : Answers r low high) where
   -- a native and its renamed one
   abbrev Natives : (Program → State → Frame → List Frame → ℕ → List Value → List Value → Option State) → Type 0
   Natives run = (s : State) (f : Frame) (fs : List Frame) (next : ℕ) (rest arguments : List Value) → run high (state_to r s) (frame_to r f) (map (frame_to r) fs) (r.place f.method next) (map (value_to r) rest) (map (value_to r) arguments) ≡ option_map (state_to r) (run low s f fs next rest arguments)
+
+  -- what a native throws is asked for
+  abbrev Throwing : NativeName → Type 0
+  Throwing name = (k : Known) → throws name k ≡ true → Asked low k
 
   new_text_law : (units : List ℕ) (s : State) (f : Frame) (fs : List Frame) (next : ℕ) (rest : List Value) → new_text high (state_to r s) (frame_to r f) (map (frame_to r) fs) (r.place f.method next) (map (value_to r) rest) units ≡ option_map (state_to r) (new_text low s f fs next rest units)
   unfolding new_text
@@ -189,24 +187,32 @@ module _ (r : Renaming) (low high : Program) (a : Answers r low high) where
       thing_law r low high a s this _ _ (λ n thing.
       elements_law r thing _ _ (λ element values. length_law r low high a s f fs next rest values)))
 
-  copy_elements_law : (s : State) (f : Frame) (fs : List Frame) (next : ℕ) (rest : List Value) (object : ℕ) (t : CliType) (vs : List Value) (u : CliType) (ws : List Value) (i j n : ℤ) → copy_elements high (state_to r s) (frame_to r f) (map (frame_to r) fs) (r.place f.method next) (map (value_to r) rest) object (type_to r t) (map (value_to r) vs) (type_to r u) (map (value_to r) ws) i j n ≡ option_map (state_to r) (copy_elements low s f fs next rest object t vs u ws i j n)
+  copy_elements_law : Throwing ArrayCopy → (s : State) (f : Frame) (fs : List Frame) (next : ℕ) (rest : List Value) (object : ℕ) (t : CliType) (vs : List Value) (u : CliType) (ws : List Value) (i j n : ℤ) → copy_elements high (state_to r s) (frame_to r f) (map (frame_to r) fs) (r.place f.method next) (map (value_to r) rest) object (type_to r t) (map (value_to r) vs) (type_to r u) (map (value_to r) ws) i j n ≡ option_map (state_to r) (copy_elements low s f fs next rest object t vs u ws i j n)
   unfolding copy_elements
-  copy_elements_law s f fs next rest object t vs u ws i j n =
+  copy_elements_law th s f fs next rest object t vs u ws i j n =
       if_law (state_to r) _ _ _ _ _ _ (type_eq_law r low high a t u)
-      (if_law (state_to r) _ _ _ _ _ _ refl (raise_law r low high a s ArgumentOutOfRange)
+      (if_law (state_to r) _ _ _ _ _ _ refl (raise_law r low high a s ArgumentOutOfRange (th ArgumentOutOfRange refl))
       (if_law (state_to r) _ _ _ _ _ _
       (ap (λ k. nat_lt k (unsigned_abs i + unsigned_abs n) || nat_lt (length (map (value_to r) ws)) (unsigned_abs j + unsigned_abs n)) (length-map_lem (value_to r) vs)
       ∙ ap (λ k. nat_lt (length vs) (unsigned_abs i + unsigned_abs n) || nat_lt k (unsigned_abs j + unsigned_abs n)) (length-map_lem (value_to r) ws))
-      (raise_law r low high a s Argument)
+      (raise_law r low high a s Argument (th Argument refl))
       (heap_law r low high a s f fs next rest (put_thing s.heap object (Elements u (spliced ws (unsigned_abs j) (piece (unsigned_abs i) (unsigned_abs n) vs)))) _
       (ap (λ xs. put_thing (map (thing_to r) s.heap) object (Elements (type_to r u) (spliced (map (value_to r) ws) (unsigned_abs j) xs))) (piece_law r (unsigned_abs i) (unsigned_abs n) vs)
       ∙ ap (λ xs. put_thing (map (thing_to r) s.heap) object (Elements (type_to r u) xs)) (spliced_law r ws (unsigned_abs j) (piece (unsigned_abs i) (unsigned_abs n) vs))
       ∙ sym (put_thing_law r s.heap object (Elements u (spliced ws (unsigned_abs j) (piece (unsigned_abs i) (unsigned_abs n) vs))))))))
-      (raise_law r low high a s ArrayTypeMismatch)
+      (raise_law r low high a s ArrayTypeMismatch (inl refl))
 
-  array_copy_law : Natives array_copy
+  array_or_null_law : (heap : List Thing) (v : Value) (o' o : Option State) → o' ≡ option_map (state_to r) o → on_array_or_null (map (thing_to r) heap) (value_to r v) o' ≡ option_map (state_to r) (on_array_or_null heap v o)
+  array_or_null_law heap (Object n) o' o e = some_law (state_to r) (thing_to r) _ _ _ _ (thing_at_law r heap n) (λ x. elements_law r x _ _ (λ t vs. e))
+  array_or_null_law heap Null o' o e = e
+  array_or_null_law heap (Int n) o' o e = refl
+  array_or_null_law heap (Long n) o' o e = refl
+  array_or_null_law heap (Handle f) o' o e = refl
+  array_or_null_law heap (Pointer c x) o' o e = refl
+
+  array_copy_law : Throwing ArrayCopy → Natives array_copy
   unfolding array_copy
-  array_copy_law s f fs next rest arguments =
+  array_copy_law th s f fs next rest arguments =
       top_law (state_to r) (value_to r) arguments _ _ (λ source more.
       top_law (state_to r) (value_to r) more _ _ (λ i more.
       top_law (state_to r) (value_to r) more _ _ (λ destination more.
@@ -215,10 +221,11 @@ module _ (r : Renaming) (low high : Program) (a : Answers r low high) where
       same_law (state_to r) _ _ _ _ (as_int_law r i) (λ i.
       same_law (state_to r) _ _ _ _ (as_int_law r j) (λ j.
       same_law (state_to r) _ _ _ _ (as_int_law r n) (λ n.
-      thing_or_law r low high a s ArgumentNull source _ _ (λ x thing.
-      thing_or_law r low high a s ArgumentNull destination _ _ (λ y other.
+      array_or_null_law s.heap source _ _ (array_or_null_law s.heap destination _ _ (
+      thing_or_law r low high a s ArgumentNull source _ _ (th ArgumentNull refl) (λ x thing.
+      thing_or_law r low high a s ArgumentNull destination _ _ (th ArgumentNull refl) (λ y other.
       elements_law r thing _ _ (λ t vs.
-      elements_law r other _ _ (λ u ws. copy_elements_law s f fs next rest y t vs u ws i j n))))))))))))
+      elements_law r other _ _ (λ u ws. copy_elements_law th s f fs next rest y t vs u ws i j n))))))))))))))
 
   string_length_law : Natives string_length
   unfolding string_length
@@ -233,7 +240,8 @@ module _ (r : Renaming) (low high : Program) (a : Answers r low high) where
       top_law (state_to r) (value_to r) more _ _ (λ index none.
       same_law (state_to r) _ _ _ _ (as_int_law r index) (λ i.
       string_law s this _ _ (λ units.
-      or_raise_law r low high a (λ (u : ℕ). u) s IndexOutOfRange _ _ _ _ (same (slice_get units (index_of i))) (λ u. goes_law r low high a s f fs next (Int (pos u) ∷ rest))))))
+      if_law (state_to r) _ _ _ _ _ _ refl (raise_law r low high a s IndexOutOfRange (inl refl))
+      (or_raise_law r low high a (λ (u : ℕ). u) s IndexOutOfRange _ _ _ _ (inl refl) (same (slice_get units (index_of i))) (λ u. goes_law r low high a s f fs next (Int (pos u) ∷ rest)))))))
     where
       same : (o : Option ℕ) → o ≡ option_map (λ u. u) o
       same None = refl
@@ -247,16 +255,16 @@ module _ (r : Renaming) (low high : Program) (a : Answers r low high) where
       same_law (state_to r) _ _ _ _ (text_law r s.heap v) (λ x.
       same_law (state_to r) _ _ _ _ (text_law r s.heap w) (λ y. new_text_law (or_empty x ++ or_empty y) s f fs next rest))))
 
-  string_substring_law : Natives string_substring
+  string_substring_law : Throwing StringSubstring → Natives string_substring
   unfolding string_substring
-  string_substring_law s f fs next rest arguments =
+  string_substring_law th s f fs next rest arguments =
       top_law (state_to r) (value_to r) arguments _ _ (λ this more.
       top_law (state_to r) (value_to r) more _ _ (λ start more.
       top_law (state_to r) (value_to r) more _ _ (λ count none.
       same_law (state_to r) _ _ _ _ (as_int_law r start) (λ i.
       same_law (state_to r) _ _ _ _ (as_int_law r count) (λ n.
       string_law s this _ _ (λ units.
-      if_law (state_to r) _ _ _ _ _ _ refl (new_text_law (piece (unsigned_abs i) (unsigned_abs n) units) s f fs next rest) (raise_law r low high a s ArgumentOutOfRange)))))))
+      if_law (state_to r) _ _ _ _ _ _ refl (new_text_law (piece (unsigned_abs i) (unsigned_abs n) units) s f fs next rest) (raise_law r low high a s ArgumentOutOfRange (th ArgumentOutOfRange refl))))))))
 
   string_equals_law : Natives string_equals
   unfolding string_equals
@@ -274,21 +282,21 @@ module _ (r : Renaming) (low high : Program) (a : Answers r low high) where
       same_law (state_to r) _ _ _ _ (text_law r s.heap v) (λ x.
       same_law (state_to r) _ _ _ _ (text_law r s.heap w) (λ y. goes_law r low high a s f fs next (Int (texts_compared x y) ∷ rest)))))
 
-  string_from_chars_law : Natives string_from_chars
+  string_from_chars_law : Throwing StringFromChars → Natives string_from_chars
   unfolding string_from_chars
-  string_from_chars_law s f fs next rest arguments =
+  string_from_chars_law th s f fs next rest arguments =
       top_law (state_to r) (value_to r) arguments _ _ (λ array more.
       top_law (state_to r) (value_to r) more _ _ (λ start more.
       top_law (state_to r) (value_to r) more _ _ (λ count none.
       same_law (state_to r) _ _ _ _ (as_int_law r start) (λ i.
       same_law (state_to r) _ _ _ _ (as_int_law r count) (λ n.
-      thing_or_law r low high a s ArgumentNull array _ _ (λ object thing.
+      thing_or_law r low high a s ArgumentNull array _ _ (th ArgumentNull refl) (λ object thing.
       elements_law r thing _ _ (λ element vs.
       on_cell_law r element (Bits U2) _ _ (λ cell.
       if_law (state_to r) _ _ _ _ _ _ (ap (λ k. is_range k i n) (length-map_lem (value_to r) vs))
       (ap (λ us. new_text high (state_to r s) (frame_to r f) (map (frame_to r) fs) (r.place f.method next) (map (value_to r) rest) us) (ap (map unit_of) (piece_law r (unsigned_abs i) (unsigned_abs n) vs) ∙ chars_law r (piece (unsigned_abs i) (unsigned_abs n) vs))
       ∙ new_text_law (map unit_of (piece (unsigned_abs i) (unsigned_abs n) vs)) s f fs next rest)
-      (raise_law r low high a s ArgumentOutOfRange)))))))))
+      (raise_law r low high a s ArgumentOutOfRange (th ArgumentOutOfRange refl))))))))))
 
   string_from_char_law : Natives string_from_char
   unfolding string_from_char
@@ -308,25 +316,25 @@ module _ (r : Renaming) (low high : Program) (a : Answers r low high) where
       top_law (state_to r) (value_to r) arguments _ _ (λ v none.
       same_law (state_to r) _ _ _ _ (as_long_law r v) (λ n. new_text_law (decimal (cast_unsigned w64 n)) s f fs next rest))
 
-  initialise_law : (s : State) (f : Frame) (fs : List Frame) (next : ℕ) (rest : List Value) (object : ℕ) (t : CliType) (vs : List Value) (bytes : List ℕ) (c : Cell) → initialise high (state_to r s) (frame_to r f) (map (frame_to r) fs) (r.place f.method next) (map (value_to r) rest) object (type_to r t) (map (value_to r) vs) bytes c ≡ option_map (state_to r) (initialise low s f fs next rest object t vs bytes c)
-  initialise_law s f fs next rest object t vs bytes Refers = raise_law r low high a s Argument
-  initialise_law s f fs next rest object t vs bytes (Bits integer) =
-      if_law (state_to r) _ _ _ _ _ _ (ap (λ n. nat_lt (length bytes) (n * bytes_of integer)) (length-map_lem (value_to r) vs)) (raise_law r low high a s Argument)
+  initialise_law : Throwing InitializeArray → (s : State) (f : Frame) (fs : List Frame) (next : ℕ) (rest : List Value) (object : ℕ) (t : CliType) (vs : List Value) (bytes : List ℕ) (c : Cell) → initialise high (state_to r s) (frame_to r f) (map (frame_to r) fs) (r.place f.method next) (map (value_to r) rest) object (type_to r t) (map (value_to r) vs) bytes c ≡ option_map (state_to r) (initialise low s f fs next rest object t vs bytes c)
+  initialise_law th s f fs next rest object t vs bytes Refers = raise_law r low high a s Argument (th Argument refl)
+  initialise_law th s f fs next rest object t vs bytes (Bits integer) =
+      if_law (state_to r) _ _ _ _ _ _ (ap (λ n. nat_lt (length bytes) (n * bytes_of integer)) (length-map_lem (value_to r) vs)) (raise_law r low high a s Argument (th Argument refl))
       (heap_law r low high a s f fs next rest (put_thing s.heap object (Elements t (numbers_of integer (length vs) bytes))) _
       (ap (λ n. put_thing (map (thing_to r) s.heap) object (Elements (type_to r t) (numbers_of integer n bytes))) (length-map_lem (value_to r) vs)
       ∙ ap (λ xs. put_thing (map (thing_to r) s.heap) object (Elements (type_to r t) xs)) (numbers_law r integer (length vs) bytes)
       ∙ sym (put_thing_law r s.heap object (Elements t (numbers_of integer (length vs) bytes)))))
 
-  initialize_array_law : Natives initialize_array
+  initialize_array_law : Throwing InitializeArray → Natives initialize_array
   unfolding initialize_array
-  initialize_array_law s f fs next rest arguments =
+  initialize_array_law th s f fs next rest arguments =
       top_law (state_to r) (value_to r) arguments _ _ (λ array more.
       top_law (state_to r) (value_to r) more _ _ (λ handle none.
       some_law (state_to r) r.field _ _ _ _ (as_handle_law r handle) (λ field.
       same_law (state_to r) _ _ _ _ (a.bytes field) (λ bytes.
       thing_law r low high a s array _ _ (λ object thing.
       elements_law r thing _ _ (λ element vs.
-      same_law (state_to r) _ _ _ _ (cell_law r element) (λ cell. initialise_law s f fs next rest object element vs bytes cell)))))))
+      same_law (state_to r) _ _ _ _ (cell_law r element) (λ cell. initialise_law th s f fs next rest object element vs bytes cell)))))))
 
   debug_print_law : Natives debug_print
   unfolding debug_print
@@ -334,21 +342,21 @@ module _ (r : Renaming) (low high : Program) (a : Answers r low high) where
       top_law (state_to r) (value_to r) arguments _ _ (λ v none.
       same_law (state_to r) _ _ _ _ (text_law r s.heap v) (λ x. goes_law r low high a (record s { output = s.output ++ printed (or_empty x) }) f fs next rest))
 
-  pub native_law : (name : NativeName) → Natives (λ p s f fs next rest arguments. native p s f fs next rest name arguments)
-  native_law ObjectToString = object_to_string_law
-  native_law EnumEquals = enum_equals_law
-  native_law EnumToString = enum_to_string_law
-  native_law ArrayLength = array_length_law
-  native_law ArrayCopy = array_copy_law
-  native_law StringLength = string_length_law
-  native_law StringChars = string_chars_law
-  native_law StringConcat = string_concat_law
-  native_law StringSubstring = string_substring_law
-  native_law StringEquals = string_equals_law
-  native_law StringCompare = string_compare_law
-  native_law StringFromChars = string_from_chars_law
-  native_law StringFromChar = string_from_char_law
-  native_law NumberSigned = number_signed_law
-  native_law NumberUnsigned = number_unsigned_law
-  native_law InitializeArray = initialize_array_law
-  native_law DebugPrint = debug_print_law
+  pub native_law : (name : NativeName) → Throwing name → Natives (λ p s f fs next rest arguments. native p s f fs next rest name arguments)
+  native_law ObjectToString th = object_to_string_law
+  native_law EnumEquals th = enum_equals_law
+  native_law EnumToString th = enum_to_string_law
+  native_law ArrayLength th = array_length_law
+  native_law ArrayCopy th = array_copy_law th
+  native_law StringLength th = string_length_law
+  native_law StringChars th = string_chars_law
+  native_law StringConcat th = string_concat_law
+  native_law StringSubstring th = string_substring_law th
+  native_law StringEquals th = string_equals_law
+  native_law StringCompare th = string_compare_law
+  native_law StringFromChars th = string_from_chars_law th
+  native_law StringFromChar th = string_from_char_law
+  native_law NumberSigned th = number_signed_law
+  native_law NumberUnsigned th = number_unsigned_law
+  native_law InitializeArray th = initialize_array_law th
+  native_law DebugPrint th = debug_print_law

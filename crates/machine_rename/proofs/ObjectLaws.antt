@@ -1,16 +1,18 @@
 -- Rows on objects under a renaming.
-use Rattle.std.proofs.Common.{◌≡◌, ℕ, zero, suc, Bool, true, false, List, [], ◌∷◌, ◌++◌, map, length, replicate, Option, Some, None, refl, sym, ap, ◌∙◌}
-use Rattle.std.specs.Prelude.{if◌then◌else◌, unsigned_abs, slice_set}
+use Rattle.std.proofs.Common.{◌≡◌, ℕ, zero, suc, Bool, true, false, List, [], ◌∷◌, ◌++◌, map, length, replicate, Option, Some, None, refl, sym, ap, ◌∙◌, inl}
+use Rattle.std.specs.Prelude.{if◌then◌else◌, ◌&&◌, ◌||◌, is_some, unsigned_abs, slice_set}
 use Rattle.std.specs.Option.{option_map}
 use Rattle.std.proofs.lemmas.List.{map-set}
 use Rattle.std.proofs.lemmas.Option.{slice_get-map}
-use Rattle.mf_types.specs.declared.board.Known.TheVariants.{IndexOutOfRange, Overflow, InvalidCast, ArrayTypeMismatch}
-use Rattle.machine.specs.Data.{Id, id_eq, put_thing, end_of, type_of, type_eq, CliType, Basic, EnumOf, ClassOf, ValueOf, ArrayOf, Plain, Cell, Bits, Refers, InObject, Value, Int, Long, Null, Object, Handle, Pointer, Thing, Instance, Text, Elements, Boxed, StaticCell, Frame, Static, State}
+use Rattle.board_types.specs.declared.board.Known.TheVariants.{IndexOutOfRange, Overflow, InvalidCast, ArrayTypeMismatch}
+use Rattle.plain_types.specs.declared.elem.Elem.TheVariants as elem
+use Rattle.machine.specs.Data.{Id, id_eq, put_thing, end_of, type_of, type_eq, CliType, Basic, EnumOf, ClassOf, ValueOf, ArrayOf, Plain, Cell, Bits, Refers, cell_of, InObject, Value, Int, Long, Null, Object, Handle, Pointer, Thing, Instance, Text, Elements, Boxed, StaticCell, Frame, Static, State}
 use Rattle.machine.specs.Program.{Program, Access}
 use Rattle.machine.specs.Numbers.{zero_of}
 use Rattle.machine.specs.Throw.{on_some, goes}
 use Rattle.machine.specs.Rows.{length_value, index_of}
-use Rattle.machine.specs.Objects.{load_field, store_field, load_field_address, static_object, static_of, static_at, Reached, reached, static_reached, load_static, store_static, load_static_address, load_text, load_indirect, store_indirect, value_fits, new_array, load_length, load_element, store_element, is_exact, load_element_address, cast_class, is_instance, box_value, number_type, same_number, boxed_number, unbox, unbox_value, unbox_any}
+use Rattle.machine.specs.Objects.{load_field, store_field, load_field_address, static_object, static_of, static_at, Reached, reached, static_reached, load_static, store_static, load_static_address, load_text, load_indirect, store_indirect, are_named, elements_named, is_named, fits_named, value_fits, new_array, load_length, load_element, store_element, is_exact, load_element_address, cast_class, is_instance, box_value, number_type, same_number, boxed_number, unbox, unbox_value, unbox_any}
+use Rattle.machine.specs.Natives.{class_of_type}
 use Rattle.machine_rename.specs.Rename.{Renaming, Answers, type_to, value_to, thing_to, frame_to, static_to, state_to, access_to}
 use Rattle.machine_rename.proofs.Base.{cell_law, some_law, same_law, if_law, top_law, two_law, three_law, length-map_lem, end_law, thing_at_law, put_thing_law, goes_law}
 use Rattle.machine_rename.proofs.ThrowLaws.{zero_law, raise_law}
@@ -170,17 +172,73 @@ module _ (r : Renaming) (low high : Program) (a : Answers r low high) where
 
   -- ---- arrays
 
-  fits_thing_law : (type : CliType) (o : Option CliType) → option_map (λ own. high.fits own (type_to r type)) (option_map (type_to r) o) ≡ option_map (λ own. low.fits own type) o
+  pub class_of_type_law : (t : CliType) → class_of_type high (type_to r t) ≡ option_map r.type (class_of_type low t)
+  class_of_type_law (Basic e) = a.basic e
+  class_of_type_law (EnumOf e class) = refl
+  class_of_type_law (ClassOf class) = refl
+  class_of_type_law (ValueOf class) = refl
+  class_of_type_law (ArrayOf element) = a.array
+
+  some_there : (o' o : Option Id) → o' ≡ option_map r.type o → is_some o' ≡ is_some o
+  some_there o' o e = ap is_some e ∙ go o
+    where
+      go : (o : Option Id) → is_some (option_map r.type o) ≡ is_some o
+      go None = refl
+      go (Some x) = refl
+
+  are_named_law : (own type : CliType) → are_named high (type_to r own) (type_to r type) ≡ are_named low own type
+  are_named_law own type =
+      ap (λ b. b || (type_eq (type_to r type) (Basic elem.Object) || (is_some (class_of_type high (type_to r own)) && is_some (class_of_type high (type_to r type))))) (type_eq_law r low high a own type)
+      ∙ ap (λ b. type_eq own type || (b || (is_some (class_of_type high (type_to r own)) && is_some (class_of_type high (type_to r type))))) (type_eq_law r low high a type (Basic elem.Object))
+      ∙ ap (λ b. type_eq own type || (type_eq type (Basic elem.Object) || (b && is_some (class_of_type high (type_to r type))))) (some_there _ _ (class_of_type_law own))
+      ∙ ap (λ b. type_eq own type || (type_eq type (Basic elem.Object) || (is_some (class_of_type low own) && b))) (some_there _ _ (class_of_type_law type))
+
+  is_named_law : (own type : CliType) → is_named high (type_to r own) (type_to r type) ≡ is_named low own type
+  is_named_law (ArrayOf c) (ArrayOf d) =
+      ap (λ k. elements_named k (cell_of (type_to r d)) (is_named high (type_to r c) (type_to r d))) (cell_law r c)
+      ∙ ap (λ k. elements_named (cell_of c) k (is_named high (type_to r c) (type_to r d))) (cell_law r d)
+      ∙ ap (elements_named (cell_of c) (cell_of d)) (is_named_law c d)
+  is_named_law (ArrayOf c) (ClassOf d) = some_there _ _ a.array
+  is_named_law (ArrayOf c) (Basic e) = refl
+  is_named_law (ArrayOf c) (EnumOf e d) = refl
+  is_named_law (ArrayOf c) (ValueOf d) = refl
+  is_named_law (Basic e) (ArrayOf d) = refl
+  is_named_law (EnumOf e c) (ArrayOf d) = refl
+  is_named_law (ClassOf c) (ArrayOf d) = refl
+  is_named_law (ValueOf c) (ArrayOf d) = refl
+  is_named_law (Basic e) (Basic g) = are_named_law (Basic e) (Basic g)
+  is_named_law (Basic e) (EnumOf g d) = are_named_law (Basic e) (EnumOf g d)
+  is_named_law (Basic e) (ClassOf d) = are_named_law (Basic e) (ClassOf d)
+  is_named_law (Basic e) (ValueOf d) = are_named_law (Basic e) (ValueOf d)
+  is_named_law (EnumOf e c) (Basic g) = are_named_law (EnumOf e c) (Basic g)
+  is_named_law (EnumOf e c) (EnumOf g d) = are_named_law (EnumOf e c) (EnumOf g d)
+  is_named_law (EnumOf e c) (ClassOf d) = are_named_law (EnumOf e c) (ClassOf d)
+  is_named_law (EnumOf e c) (ValueOf d) = are_named_law (EnumOf e c) (ValueOf d)
+  is_named_law (ClassOf c) (Basic g) = are_named_law (ClassOf c) (Basic g)
+  is_named_law (ClassOf c) (EnumOf g d) = are_named_law (ClassOf c) (EnumOf g d)
+  is_named_law (ClassOf c) (ClassOf d) = are_named_law (ClassOf c) (ClassOf d)
+  is_named_law (ClassOf c) (ValueOf d) = are_named_law (ClassOf c) (ValueOf d)
+  is_named_law (ValueOf c) (Basic g) = are_named_law (ValueOf c) (Basic g)
+  is_named_law (ValueOf c) (EnumOf g d) = are_named_law (ValueOf c) (EnumOf g d)
+  is_named_law (ValueOf c) (ClassOf d) = are_named_law (ValueOf c) (ClassOf d)
+  is_named_law (ValueOf c) (ValueOf d) = are_named_law (ValueOf c) (ValueOf d)
+
+  fits_named_law : (own type : CliType) → fits_named high (type_to r own) (type_to r type) ≡ fits_named low own type
+  fits_named_law own type =
+      ap (λ (b : Bool). if b then Some (high.fits (type_to r own) (type_to r type)) else None) (is_named_law own type)
+      ∙ ap (λ b. if is_named low own type then Some b else None) (a.fits own type)
+
+  fits_thing_law : (type : CliType) (o : Option CliType) → on_some (option_map (type_to r) o) (λ own. fits_named high own (type_to r type)) ≡ on_some o (λ own. fits_named low own type)
   fits_thing_law type None = refl
-  fits_thing_law type (Some own) = ap Some (a.fits own type)
+  fits_thing_law type (Some own) = fits_named_law own type
 
   pub value_fits_law : (heap : List Thing) (type : CliType) (v : Value) → value_fits high (map (thing_to r) heap) (type_to r type) (value_to r v) ≡ value_fits low heap type v
   value_fits_law heap type (Object n) =
-      ap (λ o. on_some o (λ x. option_map (λ own. high.fits own (type_to r type)) (type_of x))) (thing_at_law r heap n) ∙ go _
+      ap (λ o. on_some o (λ x. on_some (type_of x) (λ own. fits_named high own (type_to r type)))) (thing_at_law r heap n) ∙ go _
     where
-      go : (o : Option Thing) → on_some (option_map (thing_to r) o) (λ x. option_map (λ own. high.fits own (type_to r type)) (type_of x)) ≡ on_some o (λ x. option_map (λ own. low.fits own type) (type_of x))
+      go : (o : Option Thing) → on_some (option_map (thing_to r) o) (λ x. on_some (type_of x) (λ own. fits_named high own (type_to r type))) ≡ on_some o (λ x. on_some (type_of x) (λ own. fits_named low own type))
       go None = refl
-      go (Some x) = ap (option_map (λ own. high.fits own (type_to r type))) (type_of_law r x) ∙ fits_thing_law type (type_of x)
+      go (Some x) = ap (λ o. on_some o (λ own. fits_named high own (type_to r type))) (type_of_law r x) ∙ fits_thing_law type (type_of x)
   value_fits_law heap type Null = refl
   value_fits_law heap type (Int n) = refl
   value_fits_law heap type (Long n) = refl
@@ -197,7 +255,7 @@ module _ (r : Renaming) (low high : Program) (a : Answers r low high) where
       same_law (state_to r) _ _ _ _ (cell_law r t) (λ cell.
       top_law (state_to r) (value_to r) f.stack _ _ (λ v rest.
       same_law (state_to r) _ _ _ _ (as_int_law r v) (λ n.
-      if_law (state_to r) _ _ _ _ _ _ refl (raise_law r low high a s Overflow)
+      if_law (state_to r) _ _ _ _ _ _ refl (raise_law r low high a s Overflow (inl refl))
       (push_new_law s f fs next rest (Elements t (replicate (unsigned_abs n) (zero_of t))) _ (ap (Elements (type_to r t)) (zeros_law t (unsigned_abs n)))))))
 
   pub length_law : (s : State) (f : Frame) (fs : List Frame) (next : ℕ) (rest vs : List Value) → goes high (state_to r s) (frame_to r f) (map (frame_to r) fs) (r.place f.method next) (length_value (length (map (value_to r) vs)) ∷ map (value_to r) rest) ≡ option_map (state_to r) (goes low s f fs next (length_value (length vs) ∷ rest))
@@ -221,7 +279,7 @@ module _ (r : Renaming) (low high : Program) (a : Answers r low high) where
       thing_law r low high a s this _ _ (λ object thing.
       elements_law r thing _ _ (λ element vs.
       on_cell_law r element wide _ _ (λ cell.
-      or_raise_law r low high a (value_to r) s IndexOutOfRange _ _ _ _ (slice_get-map (value_to r) vs (index_of i)) (λ v.
+      or_raise_law r low high a (value_to r) s IndexOutOfRange _ _ _ _ (inl refl) (slice_get-map (value_to r) vs (index_of i)) (λ v.
       some_law (state_to r) (value_to r) _ _ _ _ (kept_in_law r wide v) (λ w. goes_law r low high a s f fs next (w ∷ rest)))))))))
 
   pub store_element_law : (x : Access) → Rows (λ p s f fs next. store_element p s f fs next (access_to r x)) (λ p s f fs next. store_element p s f fs next x)
@@ -234,12 +292,12 @@ module _ (r : Renaming) (low high : Program) (a : Answers r low high) where
       thing_law r low high a s this _ _ (λ object thing.
       elements_law r thing _ _ (λ element vs.
       on_cell_law r element wide _ _ (λ cell.
-      or_raise_law r low high a (value_to r) s IndexOutOfRange _ _ _ _ (slice_get-map (value_to r) vs (index_of i)) (λ old.
+      or_raise_law r low high a (value_to r) s IndexOutOfRange _ _ _ _ (inl refl) (slice_get-map (value_to r) vs (index_of i)) (λ old.
       same_law (state_to r) _ _ _ _ (value_fits_law s.heap element w) (λ ok.
       if_law (state_to r) _ _ _ _ _ _ refl
       (some_law (state_to r) (value_to r) _ _ _ _ (kept_in_law r cell w) (λ y.
       heap_law s f fs next rest (put_thing s.heap object (Elements element (slice_set vs (index_of i) y))) _ (put_elements_law s.heap object element vs (index_of i) y)))
-      (raise_law r low high a s ArrayTypeMismatch))))))))))
+      (raise_law r low high a s ArrayTypeMismatch (inl refl)))))))))))
 
   exact_law : (c : Cell) (t u : CliType) → is_exact c (type_to r t) (type_to r u) ≡ is_exact c t u
   exact_law (Bits integer) t u = refl
@@ -254,10 +312,10 @@ module _ (r : Renaming) (low high : Program) (a : Answers r low high) where
       thing_law r low high a s this _ _ (λ object thing.
       elements_law r thing _ _ (λ element vs.
       on_cell_law r element wide _ _ (λ cell.
-      or_raise_law r low high a (value_to r) s IndexOutOfRange _ _ _ _ (slice_get-map (value_to r) vs (index_of i)) (λ old.
+      or_raise_law r low high a (value_to r) s IndexOutOfRange _ _ _ _ (inl refl) (slice_get-map (value_to r) vs (index_of i)) (λ old.
       if_law (state_to r) _ _ _ _ _ _ (exact_law cell element t)
       (goes_law r low high a s f fs next (Pointer cell (InObject object (index_of i)) ∷ rest))
-      (raise_law r low high a s ArrayTypeMismatch))))))))
+      (raise_law r low high a s ArrayTypeMismatch (inl refl)))))))))
 
   -- ---- casts and boxes
 
@@ -267,7 +325,7 @@ module _ (r : Renaming) (low high : Program) (a : Answers r low high) where
       top_law (state_to r) (value_to r) f.stack _ _ (λ v rest.
       some_law (state_to r) (value_to r) _ _ _ _ (kept_in_law r Refers v) (λ w.
       same_law (state_to r) _ _ _ _ (value_fits_law s.heap t w) (λ ok.
-      if_law (state_to r) _ _ _ _ _ _ refl (goes_law r low high a s f fs next (w ∷ rest)) (raise_law r low high a s InvalidCast))))
+      if_law (state_to r) _ _ _ _ _ _ refl (goes_law r low high a s f fs next (w ∷ rest)) (raise_law r low high a s InvalidCast (inl refl)))))
 
   or_null_law : (b : Bool) (v : Value) → (if b then value_to r v else Null) ≡ value_to r (if b then v else Null)
   or_null_law true v = refl
@@ -314,7 +372,7 @@ module _ (r : Renaming) (low high : Program) (a : Answers r low high) where
       same_law (state_to r) _ _ _ _ (cell_law r t) (λ cell.
       top_law (state_to r) (value_to r) f.stack _ _ (λ v rest.
       thing_law r low high a s v _ _ (λ object thing.
-      or_raise_law r low high a (value_to r) s InvalidCast _ _ _ _ (boxed_number_law t thing) (λ old.
+      or_raise_law r low high a (value_to r) s InvalidCast _ _ _ _ (inl refl) (boxed_number_law t thing) (λ old.
       goes_law r low high a s f fs next (Pointer cell (InObject object 0) ∷ rest)))))
 
   unbox_value_law : (t : CliType) → Rows (λ p s f fs next. unbox_value p s f fs next (type_to r t)) (λ p s f fs next. unbox_value p s f fs next t)
@@ -322,7 +380,7 @@ module _ (r : Renaming) (low high : Program) (a : Answers r low high) where
   unbox_value_law t s f fs next =
       top_law (state_to r) (value_to r) f.stack _ _ (λ v rest.
       thing_law r low high a s v _ _ (λ object thing.
-      or_raise_law r low high a (value_to r) s InvalidCast _ _ _ _ (boxed_number_law t thing) (λ w.
+      or_raise_law r low high a (value_to r) s InvalidCast _ _ _ _ (inl refl) (boxed_number_law t thing) (λ w.
       goes_law r low high a s f fs next (w ∷ rest))))
 
   pub unbox_any_law : (t : CliType) (c : Cell) → Rows (λ p s f fs next. unbox_any p s f fs next (type_to r t) c) (λ p s f fs next. unbox_any p s f fs next t c)

@@ -1,19 +1,19 @@
 -- What rows are made of, under a renaming: references, objects and the memory that pointers lead to.
-use Rattle.std.proofs.Common.{◌≡◌, ℕ, ◌+◌, Bool, true, false, ◌==◌, ◌&&◌, List, [], ◌∷◌, ◌++◌, map, length, Option, Some, None, refl, sym, ap, ◌∙◌}
+use Rattle.std.proofs.Common.{◌≡◌, ℕ, ◌+◌, Bool, true, false, ◌==◌, ◌&&◌, List, [], ◌∷◌, ◌++◌, map, length, Option, Some, None, refl, sym, ap, ◌∙◌, inl}
 use Rattle.std.specs.Prelude.{if◌then◌else◌, slice_set}
 use Rattle.std.specs.Option.{option_map}
 use Rattle.std.proofs.lemmas.List.{map-append, map-set}
 use Rattle.std.proofs.lemmas.Option.{slice_get-map}
-use Rattle.mf_types.specs.declared.board.Known.{Known}
-use Rattle.mf_types.specs.declared.board.Known.TheVariants.{NullReference}
+use Rattle.board_types.specs.declared.board.Known.{Known}
+use Rattle.board_types.specs.declared.board.Known.TheVariants.{NullReference}
 use Rattle.machine.specs.Data.{Id, elem_number, put_thing, type_of, type_eq, CliType, Basic, EnumOf, ClassOf, ValueOf, ArrayOf, Cell, Spot, InArgument, InLocal, InObject, Value, Int, Long, Null, Object, Handle, Pointer, Thing, Instance, Text, Elements, Boxed, StaticCell, Frame, State}
 use Rattle.machine.specs.Program.{Program, Method}
 use Rattle.machine.specs.Numbers.{Answer, Gives, Raises, NoCase}
 use Rattle.machine.specs.Rows.{answered, or_raise, on_thing_or, on_thing, on_instance, on_elements, on_cell, total, method_cells, frames_cells, frame_at, put_frame, value_in, with_value, read, Written, write, on_pointer}
-use Rattle.machine_rename.specs.Rename.{Renaming, Answers, type_to, place_type_to, value_to, thing_to, frame_to, state_to, method_to, clause_to}
+use Rattle.machine_rename.specs.Rename.{Renaming, Answers, Asked, type_to, place_type_to, value_to, thing_to, frame_to, state_to, method_to, clause_to}
 use Rattle.machine_rename.proofs.Base.{cell_law, some_law, same_law, if_law, length-map_lem, thing_at_law, put_thing_law, goes_law}
 use Rattle.machine_rename.proofs.ThrowLaws.{raise_law}
-use Rattle.machine_rename.proofs.ValueLaws.{answer_to}
+use Rattle.machine_rename.proofs.ValueLaws.{answer_to, Allowed}
 
 -- objects alone
 module _ (r : Renaming) where
@@ -94,28 +94,28 @@ module _ (r : Renaming) (low high : Program) (a : Answers r low high) where
   type_eq_law (ArrayOf t) (ValueOf d) = refl
   type_eq_law (ArrayOf t) (ArrayOf u) = type_eq_law t u
 
-  pub answered_law : (s : State) (f : Frame) (fs : List Frame) (next : ℕ) (rest : List Value) (o : Answer) → answered high (state_to r s) (frame_to r f) (map (frame_to r) fs) (r.place f.method next) (map (value_to r) rest) (answer_to r o) ≡ option_map (state_to r) (answered low s f fs next rest o)
-  answered_law s f fs next rest (Gives v) = goes_law r low high a s f fs next (v ∷ rest)
-  answered_law s f fs next rest (Raises k) = raise_law r low high a s k
-  answered_law s f fs next rest NoCase = refl
+  pub answered_law : (s : State) (f : Frame) (fs : List Frame) (next : ℕ) (rest : List Value) (o : Answer) → Allowed r o → answered high (state_to r s) (frame_to r f) (map (frame_to r) fs) (r.place f.method next) (map (value_to r) rest) (answer_to r o) ≡ option_map (state_to r) (answered low s f fs next rest o)
+  answered_law s f fs next rest (Gives v) h = goes_law r low high a s f fs next (v ∷ rest)
+  answered_law s f fs next rest (Raises k) h = raise_law r low high a s k (inl h)
+  answered_law s f fs next rest NoCase h = refl
 
-  pub or_raise_law : {A A' : Type 0} (h : A → A') (s : State) (known : Known) (o : Option A) (o' : Option A') (k' : A' → Option State) (k : A → Option State) → o' ≡ option_map h o → ((x : A) → k' (h x) ≡ option_map (state_to r) (k x)) → or_raise high (state_to r s) known o' k' ≡ option_map (state_to r) (or_raise low s known o k)
-  or_raise_law h s known o o' k' k e f = ap (λ q. or_raise high (state_to r s) known q k') e ∙ go o
+  pub or_raise_law : {A A' : Type 0} (h : A → A') (s : State) (known : Known) (o : Option A) (o' : Option A') (k' : A' → Option State) (k : A → Option State) → Asked low known → o' ≡ option_map h o → ((x : A) → k' (h x) ≡ option_map (state_to r) (k x)) → or_raise high (state_to r s) known o' k' ≡ option_map (state_to r) (or_raise low s known o k)
+  or_raise_law h s known o o' k' k asked e f = ap (λ q. or_raise high (state_to r s) known q k') e ∙ go o
     where
       go : (o : Option _) → or_raise high (state_to r s) known (option_map h o) k' ≡ option_map (state_to r) (or_raise low s known o k)
-      go None = raise_law r low high a s known
+      go None = raise_law r low high a s known asked
       go (Some x) = f x
 
-  pub thing_or_law : (s : State) (known : Known) (v : Value) (k' k : ℕ → Thing → Option State) → ((n : ℕ) (t : Thing) → k' n (thing_to r t) ≡ option_map (state_to r) (k n t)) → on_thing_or high (state_to r s) known (value_to r v) k' ≡ option_map (state_to r) (on_thing_or low s known v k)
-  thing_or_law s known (Object n) k' k h = some_law (state_to r) (thing_to r) _ _ _ _ (thing_at_law r s.heap n) (h n)
-  thing_or_law s known Null k' k h = raise_law r low high a s known
-  thing_or_law s known (Int n) k' k h = refl
-  thing_or_law s known (Long n) k' k h = refl
-  thing_or_law s known (Handle f) k' k h = refl
-  thing_or_law s known (Pointer c x) k' k h = refl
+  pub thing_or_law : (s : State) (known : Known) (v : Value) (k' k : ℕ → Thing → Option State) → Asked low known → ((n : ℕ) (t : Thing) → k' n (thing_to r t) ≡ option_map (state_to r) (k n t)) → on_thing_or high (state_to r s) known (value_to r v) k' ≡ option_map (state_to r) (on_thing_or low s known v k)
+  thing_or_law s known (Object n) k' k asked h = some_law (state_to r) (thing_to r) _ _ _ _ (thing_at_law r s.heap n) (h n)
+  thing_or_law s known Null k' k asked h = raise_law r low high a s known asked
+  thing_or_law s known (Int n) k' k asked h = refl
+  thing_or_law s known (Long n) k' k asked h = refl
+  thing_or_law s known (Handle f) k' k asked h = refl
+  thing_or_law s known (Pointer c x) k' k asked h = refl
 
   pub thing_law : (s : State) (v : Value) (k' k : ℕ → Thing → Option State) → ((n : ℕ) (t : Thing) → k' n (thing_to r t) ≡ option_map (state_to r) (k n t)) → on_thing high (state_to r s) (value_to r v) k' ≡ option_map (state_to r) (on_thing low s v k)
-  thing_law s v k' k h = thing_or_law s NullReference v k' k h
+  thing_law s v k' k h = thing_or_law s NullReference v k' k (inl refl) h
 
   pub instance_law : (owner : Id) (t : Thing) (k' k : Id → List Value → Option State) → ((c : Id) (vs : List Value) → k' (r.type c) (map (value_to r) vs) ≡ option_map (state_to r) (k c vs)) → on_instance high (r.type owner) (thing_to r t) k' ≡ option_map (state_to r) (on_instance low owner t k)
   instance_law owner (Instance c vs) k' k h = if_law (state_to r) _ _ _ _ _ _ (a.is_sub c owner) (h c vs) refl
@@ -141,7 +141,7 @@ module _ (r : Renaming) (low high : Program) (a : Answers r low high) where
   frame_at_law : (fs : List Frame) (depth : ℕ) → frame_at high (map (frame_to r) fs) depth ≡ option_map (frame_to r) (frame_at low fs depth)
   frame_at_law [] depth = refl
   frame_at_law (f ∷ fs) depth =
-      if_law (frame_to r) _ _ _ _ _ _ (ap (λ n. n == depth) (frames_law fs)) refl (frame_at_law fs depth)
+      if_law (frame_to r) _ _ _ _ _ _ (ap (λ n. n == depth) (frames_law (f ∷ fs))) refl (frame_at_law fs depth)
 
   if_frames : (b b' : Bool) (x y x' y' : List Frame) → b' ≡ b → x' ≡ map (frame_to r) x → y' ≡ map (frame_to r) y → (if b' then x' else y') ≡ map (frame_to r) (if b then x else y)
   if_frames b b' x y x' y' e p q = ap (λ c. if c then x' else y') e ∙ go b
@@ -153,7 +153,7 @@ module _ (r : Renaming) (low high : Program) (a : Answers r low high) where
   put_frame_law : (fs : List Frame) (depth : ℕ) (g : Frame) → put_frame high (map (frame_to r) fs) depth (frame_to r g) ≡ map (frame_to r) (put_frame low fs depth g)
   put_frame_law [] depth g = refl
   put_frame_law (f ∷ fs) depth g =
-      if_frames _ _ _ _ _ _ (ap (λ n. n == depth) (frames_law fs)) refl (ap (λ gs. frame_to r f ∷ gs) (put_frame_law fs depth g))
+      if_frames _ _ _ _ _ _ (ap (λ n. n == depth) (frames_law (f ∷ fs))) refl (ap (λ gs. frame_to r f ∷ gs) (put_frame_law fs depth g))
 
   -- memory
   pub read_law : (s : State) (f : Frame) (fs : List Frame) (x : Spot) → read high (state_to r s) (frame_to r f) (map (frame_to r) fs) x ≡ option_map (value_to r) (read low s f fs x)
@@ -169,13 +169,13 @@ module _ (r : Renaming) (low high : Program) (a : Answers r low high) where
 
   pub write_law : (s : State) (f : Frame) (fs : List Frame) (x : Spot) (v : Value) → write high (state_to r s) (frame_to r f) (map (frame_to r) fs) x (value_to r v) ≡ option_map written_to (write low s f fs x v)
   write_law s f fs (InArgument depth n) v =
-      if_law written_to _ _ _ _ _ _ (ap (λ k. k == depth) (frames_law fs))
+      if_law written_to _ _ _ _ _ _ (ap (λ k. k == depth) (frames_law (f ∷ fs)))
       (ap (λ vs. Some (record { state = state_to r s; arguments = vs; locals = map (value_to r) f.locals; callers = map (frame_to r) fs })) (sym (map-set (value_to r) f.arguments n v)))
       (some_law written_to (frame_to r) _ _ _ _ (frame_at_law fs depth) (λ g.
       ap (λ vs. Some (record { state = state_to r s; arguments = map (value_to r) f.arguments; locals = map (value_to r) f.locals; callers = put_frame high (map (frame_to r) fs) depth (record (frame_to r g) { arguments = vs }) })) (sym (map-set (value_to r) g.arguments n v))
       ∙ ap (λ gs. Some (record { state = state_to r s; arguments = map (value_to r) f.arguments; locals = map (value_to r) f.locals; callers = gs })) (put_frame_law fs depth (record g { arguments = slice_set g.arguments n v }))))
   write_law s f fs (InLocal depth n) v =
-      if_law written_to _ _ _ _ _ _ (ap (λ k. k == depth) (frames_law fs))
+      if_law written_to _ _ _ _ _ _ (ap (λ k. k == depth) (frames_law (f ∷ fs)))
       (ap (λ vs. Some (record { state = state_to r s; arguments = map (value_to r) f.arguments; locals = vs; callers = map (frame_to r) fs })) (sym (map-set (value_to r) f.locals n v)))
       (some_law written_to (frame_to r) _ _ _ _ (frame_at_law fs depth) (λ g.
       ap (λ vs. Some (record { state = state_to r s; arguments = map (value_to r) f.arguments; locals = map (value_to r) f.locals; callers = put_frame high (map (frame_to r) fs) depth (record (frame_to r g) { locals = vs }) })) (sym (map-set (value_to r) g.locals n v))

@@ -16,7 +16,7 @@ use Rattle.machine.specs.Step.{branch_if, place_cell, act, after_start, step}
 use Rattle.machine_rename.specs.Rename.{Renaming, Answers, place_type_to, value_to, slot_to, frame_to, state_to, instruction_to, initialiser_to, line_to, method_to}
 use Rattle.machine_rename.proofs.Base.{cell_law, some_law, same_law, if_law, top_law, two_law, goes_law}
 use Rattle.machine_rename.proofs.ThrowLaws.{left_law, leave_law, take_up_law, throw_value_law, throw_again_law}
-use Rattle.machine_rename.proofs.ValueLaws.{binary_law, shift_law, unary_law, compare_law, branch_compare_law, truth_law, convert_law, convert_checked_law, as_int_law, kept_law}
+use Rattle.machine_rename.proofs.ValueLaws.{binary_law, binary_allowed, shift_law, unary_law, compare_law, branch_compare_law, truth_law, convert_law, convert_checked_law, convert_checked_allowed, as_int_law, kept_law}
 use Rattle.machine_rename.proofs.RowLaws.{answered_law, frames_law}
 use Rattle.machine_rename.proofs.ObjectLaws.{load_field_law, store_field_law, load_field_address_law, load_static_law, store_static_law, load_static_address_law, load_text_law, load_indirect_law, store_indirect_law, new_array_law, load_length_law, load_element_law, store_element_law, load_element_address_law, cast_class_law, is_instance_law, box_value_law, unbox_law, unbox_any_law}
 use Rattle.machine_rename.proofs.CallLaws.{call_law, call_virtual_law, new_object_law, return_law, start_class_law}
@@ -61,8 +61,8 @@ module _ (r : Renaming) (low high : Program) (a : Answers r low high) where
       some_law (state_to r) (method_to r f.method) _ _ _ _ (a.method f.method) (λ m.
       some_law (state_to r) (place_type_to r) _ _ _ _ (slice_get-map (place_type_to r) m.arguments n) (λ type.
       same_law (state_to r) _ _ _ _ (place_cell_law type) (λ cell.
-      ap (λ d. goes high (state_to r s) (frame_to r f) (map (frame_to r) fs) (r.place f.method next) (Pointer cell (InArgument d n) ∷ map (value_to r) f.stack)) (frames_law r low high a fs)
-      ∙ goes_law r low high a s f fs next (Pointer cell (InArgument (frames_cells low fs) n) ∷ f.stack))))
+      ap (λ d. goes high (state_to r s) (frame_to r f) (map (frame_to r) fs) (r.place f.method next) (Pointer cell (InArgument d n) ∷ map (value_to r) f.stack)) (frames_law r low high a (f ∷ fs))
+      ∙ goes_law r low high a s f fs next (Pointer cell (InArgument (frames_cells low (f ∷ fs)) n) ∷ f.stack))))
   act_law s f fs next (LoadLocal n) =
       some_law (state_to r) (value_to r) _ _ _ _ (slice_get-map (value_to r) f.locals n) (λ v. goes_law r low high a s f fs next (v ∷ f.stack))
   act_law s f fs next (StoreLocal n) =
@@ -76,12 +76,12 @@ module _ (r : Renaming) (low high : Program) (a : Answers r low high) where
       some_law (state_to r) (method_to r f.method) _ _ _ _ (a.method f.method) (λ m.
       some_law (state_to r) (place_type_to r) _ _ _ _ (slice_get-map (place_type_to r) m.locals n) (λ type.
       same_law (state_to r) _ _ _ _ (place_cell_law type) (λ cell.
-      ap (λ d. goes high (state_to r s) (frame_to r f) (map (frame_to r) fs) (r.place f.method next) (Pointer cell (InLocal d n) ∷ map (value_to r) f.stack)) (frames_law r low high a fs)
-      ∙ goes_law r low high a s f fs next (Pointer cell (InLocal (frames_cells low fs) n) ∷ f.stack))))
+      ap (λ d. goes high (state_to r s) (frame_to r f) (map (frame_to r) fs) (r.place f.method next) (Pointer cell (InLocal d n) ∷ map (value_to r) f.stack)) (frames_law r low high a (f ∷ fs))
+      ∙ goes_law r low high a s f fs next (Pointer cell (InLocal (frames_cells low (f ∷ fs)) n) ∷ f.stack))))
   act_law s f fs next (Binary operator) =
       two_law (state_to r) (value_to r) f.stack _ _ (λ x y rest.
       ap (answered high (state_to r s) (frame_to r f) (map (frame_to r) fs) (r.place f.method next) (map (value_to r) rest)) (binary_law r operator x y)
-      ∙ answered_law r low high a s f fs next rest (binary operator x y))
+      ∙ answered_law r low high a s f fs next rest (binary operator x y) (binary_allowed r operator x y))
   act_law s f fs next (Shift operator) =
       two_law (state_to r) (value_to r) f.stack _ _ (λ x y rest.
       some_law (state_to r) (value_to r) _ _ _ _ (shift_law r operator x y) (λ v. goes_law r low high a s f fs next (v ∷ rest)))
@@ -97,7 +97,7 @@ module _ (r : Renaming) (low high : Program) (a : Answers r low high) where
   act_law s f fs next (ConvertChecked integer source) =
       top_law (state_to r) (value_to r) f.stack _ _ (λ x rest.
       ap (answered high (state_to r s) (frame_to r f) (map (frame_to r) fs) (r.place f.method next) (map (value_to r) rest)) (convert_checked_law r integer source x)
-      ∙ answered_law r low high a s f fs next rest (convert_checked integer source x))
+      ∙ answered_law r low high a s f fs next rest (convert_checked integer source x) (convert_checked_allowed r integer source x))
   act_law s f fs next (Branch target) = goes_law r low high a s f fs target f.stack
   act_law s f fs next (BranchIf on target) =
       top_law (state_to r) (value_to r) f.stack _ _ (λ v rest. branch_law s f fs next on target _ _ rest (truth_law r v))

@@ -1,17 +1,17 @@
 -- Exceptions under a renaming.
-use Rattle.std.proofs.Common.{◌≡◌, ℕ, suc, Bool, true, false, ◌&&◌, not, List, [], ◌∷◌, ◌++◌, map, Option, Some, None, refl, sym, ap, ◌∙◌}
+use Rattle.std.proofs.Common.{◌≡◌, ℕ, suc, Bool, true, false, ◌&&◌, not, List, [], ◌∷◌, ◌++◌, map, Option, Some, None, refl, sym, ap, ◌∙◌, inl}
 use Rattle.std.specs.Prelude.{if◌then◌else◌, pos, slice_set}
 use Rattle.std.specs.Option.{option_map}
 use Rattle.std.proofs.lemmas.List.{map-append, map-set}
 use Rattle.std.proofs.lemmas.Option.{slice_get-map}
-use Rattle.mf_types.specs.declared.board.Known.{Known}
-use Rattle.mf_types.specs.declared.board.Known.TheVariants.{NullReference}
+use Rattle.board_types.specs.declared.board.Known.{Known}
+use Rattle.board_types.specs.declared.board.Known.TheVariants.{NullReference}
 use Rattle.machine.specs.Data.{Id, end_of, CliType, PlaceType, Plain, To, Cell, Bits, Refers, cell_of, Value, Int, Long, Null, Object, Handle, Pointer, Thing, Instance, Text, Elements, Boxed, StaticCell, Turn, Finally, EndFrame, Slot, Nothing, Caught, Throwing, Leaving, Frame, State}
 use Rattle.machine.specs.Program.{Program, Clause, ClauseKind, Catch, Final}
 use Rattle.machine.specs.Numbers.{is_long, zero_in, zero_of, zero_place}
-use Rattle.machine.specs.Throw.{goes, Scan, scanned, scan, Route, route_of, search_frames, enter_clause, follow, taken, throw, raise, is_final, left, leave, take_up, thrown_class, throw_thing, throw_value, throw_again}
-use Rattle.machine_rename.specs.Rename.{Renaming, Answers, type_to, place_type_to, value_to, thing_to, slot_to, frame_to, state_to, method_to, kind_to, clause_to}
-use Rattle.machine_rename.proofs.Base.{cell_law, some_law, some_eq, end_law, thing_at_law, goes_law}
+use Rattle.machine.specs.Throw.{goes, Scan, scanned, scan, Route, route_of, search_frames, enter_clause, follow, taken, throw, raise, is_final, left, leave, take_up, thrown_class, throw_thing, throw_value, throw_again, throw_exception}
+use Rattle.machine_rename.specs.Rename.{Renaming, Answers, Asked, type_to, place_type_to, value_to, thing_to, slot_to, frame_to, state_to, method_to, kind_to, clause_to}
+use Rattle.machine_rename.proofs.Base.{if_law, cell_law, some_law, some_eq, end_law, thing_at_law, goes_law}
 
 module _ (r : Renaming) where
   zero_bits : (b : Bool) → value_to r (if b then Long (pos 0) else Int (pos 0)) ≡ (if b then Long (pos 0) else Int (pos 0))
@@ -89,10 +89,10 @@ module _ (r : Renaming) (low high : Program) (a : Answers r low high) where
   throw_law s class object =
       ap (taken high (state_to r s) (r.type class) object) (search_law class s.frames) ∙ taken_law s class object (search_frames low class s.frames)
 
-  pub raise_law : (s : State) (known : Known) → raise high (state_to r s) known ≡ option_map (state_to r) (raise low s known)
+  pub raise_law : (s : State) (known : Known) → Asked low known → raise high (state_to r s) known ≡ option_map (state_to r) (raise low s known)
   unfolding raise
-  raise_law s known =
-      some_law (state_to r) r.type _ _ _ _ (a.known known) (λ class.
+  raise_law s known asked =
+      some_law (state_to r) r.type _ _ _ _ (a.known known asked) (λ class.
       some_law (state_to r) (map (type_to r)) _ _ _ _ (a.fields class) (λ ks.
       ap (λ n. throw high (record (state_to r s) { heap = map (thing_to r) s.heap ++ Instance (r.type class) (map zero_of (map (type_to r) ks)) ∷ [] }) (r.type class) n) (end_law r s.heap)
       ∙ ap (λ h. throw high (record (state_to r s) { heap = h }) (r.type class) (end_of s.heap)) (sym (made_law r s.heap class ks))
@@ -130,9 +130,17 @@ module _ (r : Renaming) (low high : Program) (a : Answers r low high) where
       some_law (state_to r) (thing_to r) _ _ _ _ (thing_at_law r s.heap object) (λ thing.
       some_law (state_to r) r.type _ _ _ _ (thrown_class_law thing) (λ class. throw_law s class object))
 
+  throw_exception_law : (s : State) (object : ℕ) → throw_exception high (state_to r s) object ≡ option_map (state_to r) (throw_exception low s object)
+  unfolding throw_exception
+  throw_exception_law s object =
+      some_law (state_to r) (thing_to r) _ _ _ _ (thing_at_law r s.heap object) (λ thing.
+      some_law (state_to r) r.type _ _ _ _ (thrown_class_law thing) (λ class.
+      some_law (state_to r) r.type _ _ _ _ a.exception (λ top.
+      if_law (state_to r) _ _ _ _ _ _ (a.is_sub class top) (throw_law s class object) refl)))
+
   pub throw_value_law : (s : State) (v : Value) → throw_value high (state_to r s) (value_to r v) ≡ option_map (state_to r) (throw_value low s v)
-  throw_value_law s (Object n) = throw_thing_law s n
-  throw_value_law s Null = raise_law s NullReference
+  throw_value_law s (Object n) = throw_exception_law s n
+  throw_value_law s Null = raise_law s NullReference (inl refl)
   throw_value_law s (Int n) = refl
   throw_value_law s (Long n) = refl
   throw_value_law s (Handle h) = refl

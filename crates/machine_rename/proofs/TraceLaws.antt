@@ -11,7 +11,7 @@ use Rattle.machine.specs.Trace.{cells, passes, Finish, WithNumber, WithClass, Me
 use Rattle.machine_rename.specs.Rename.{Renaming, Answers, type_to, place_type_to, value_to, thing_to, frame_to, end_to, state_to, initialiser_to, method_to, code_place_to, finish_to, trace_to}
 use Rattle.machine_rename.proofs.Base.{some_law, if_law, end_law}
 use Rattle.machine_rename.proofs.RowLaws.{frames_law}
-use Rattle.machine_rename.proofs.CallLaws.{start_frame_law}
+use Rattle.machine_rename.proofs.CallLaws.{start_frame_law, if_none_law}
 use Rattle.machine_rename.proofs.StepLaws.{step_law}
 
 module _ (r : Renaming) where
@@ -76,7 +76,7 @@ module _ (r : Renaming) where
   is_stuck_law t u e = ap (λ (x : Trace). is_stuck x.finish) e ∙ stuck_law t.finish
 
 module _ (r : Renaming) (low high : Program) (a : Answers r low high) where
-  cells_law : (s : State) → cells high (state_to r s) ≡ cells low s
+  pub cells_law : (s : State) → cells high (state_to r s) ≡ cells low s
   cells_law s =
       ap (λ n. n + frames_cells high (map (frame_to r) s.frames)) (end_law r s.heap)
       ∙ ap (λ n. end_of s.heap + n) (frames_law r low high a s.frames)
@@ -113,10 +113,11 @@ module _ (r : Renaming) (low high : Program) (a : Answers r low high) where
       ap (λ f. Some (begun (map (thing_to r) g.heap) (f ∷ []) [])) (start_frame_law r low high a false id m g.arguments)
   started_state_law id m g (Some i) =
       some_law (state_to r) (method_to r i.method) _ _ _ _ (a.method i.method) (λ n.
-      ap (λ f. Some (begun (map (thing_to r) g.heap) (start_frame true (r.method i.method) (method_to r i.method n) [] ∷ f ∷ []) (r.type i.class ∷ []))) (start_frame_law r low high a false id m g.arguments)
-      ∙ ap (λ f. Some (begun (map (thing_to r) g.heap) (f ∷ frame_to r (start_frame false id m g.arguments) ∷ []) (r.type i.class ∷ []))) (start_frame_law r low high a true i.method n []))
+      if_none_law r (place_type_to r) n.arguments _ _
+      (ap (λ f. Some (begun (map (thing_to r) g.heap) (start_frame true (r.method i.method) (method_to r i.method n) [] ∷ f ∷ []) (r.type i.class ∷ []))) (start_frame_law r low high a false id m g.arguments)
+      ∙ ap (λ f. Some (begun (map (thing_to r) g.heap) (f ∷ frame_to r (start_frame false id m g.arguments) ∷ []) (r.type i.class ∷ []))) (start_frame_law r low high a true i.method n [])))
 
-  start_law : start high ≡ option_map (state_to r) (start low)
+  pub start_law : start high ≡ option_map (state_to r) (start low)
   unfolding start
   start_law =
       some_law (state_to r) r.method _ _ _ _ a.entry (λ id.

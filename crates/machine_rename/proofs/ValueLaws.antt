@@ -11,13 +11,13 @@ use Rattle.cil_opcodes.specs.declared.shape.Operator.TheVariants.{Add, Subtract,
 use Rattle.cil_opcodes.specs.declared.shape.UnaryOperator.{UnaryOperator}
 use Rattle.cil_opcodes.specs.declared.shape.ShiftOperator.{ShiftOperator}
 use Rattle.cil_opcodes.specs.declared.shape.Comparison.{Comparison}
-use Rattle.mf_types.specs.declared.board.Known.TheVariants.{Overflow, Arithmetic, DivideByZero}
+use Rattle.board_types.specs.declared.board.Known.TheVariants.{Overflow, Arithmetic, DivideByZero}
 use Rattle.machine.specs.Data.{Id, CliType, Basic, EnumOf, ClassOf, ValueOf, ArrayOf, PlaceType, Plain, To, Cell, Bits, Refers, Spot, Value, Int, Long, Null, Object, Handle, Pointer, Nothing}
 use Rattle.machine.specs.Program.{Method, Access, Exact, Typed, access_cell}
-use Rattle.machine.specs.Numbers.{Answer, Gives, Raises, NoCase, is_long, integer_at, read_as, least, greatest, cut, checked, is_zero, is_least_by_minus_one, by_signed, by_unsigned, arithmetic, Sight, AnInt, ALong, sight_of, Pair, Ints, Longs, References, Other, pair_of, on_pair, binary, on_shift, shift, on_unary, unary, compared, compare, branch_compared, branch_compare, truth, widened, on_convert, convert, on_convert_checked, convert_checked, same_width, small, kept_in, PlaceKind, Holds, HoldsPointer, HoldsHandle, kind_of_type, kind_of, kept_by, kept, as_int, as_long, as_handle}
+use Rattle.machine.specs.Numbers.{Answer, Gives, Raises, NoCase, is_long, integer_at, read_as, least, greatest, cut, checked, is_zero, is_least_by_minus_one, by_signed, by_unsigned, arithmetic, Sight, AnInt, ALong, ANull, AnObject, Another, sight_of, Pair, Ints, Longs, References, Other, pair_of, on_pair, binary, on_shift, shift, on_unary, unary, compared, compare, branch_compared, branch_compare, truth, widened, on_convert, convert, on_convert_checked, convert_checked, same_width, small, kept_in, PlaceKind, Holds, HoldsPointer, HoldsHandle, kind_of_type, kind_of, kept_by, kept, as_int, as_long, as_handle}
 use Rattle.machine.specs.Rows.{Taken, take_arguments, keep_all}
 use Rattle.machine.specs.Calls.{result_of, with_result, number_of}
-use Rattle.machine_rename.specs.Rename.{Renaming, type_to, place_type_to, value_to, slot_to, access_to}
+use Rattle.machine_rename.specs.Rename.{Renaming, type_to, place_type_to, value_to, slot_to, access_to, by_instructions}
 use Rattle.machine_rename.proofs.Base.{cell_law, some_law, length-map_lem}
 
 module _ (r : Renaming) where
@@ -25,6 +25,61 @@ module _ (r : Renaming) where
   answer_to (Gives v) = Gives (value_to r v)
   answer_to (Raises k) = Raises k
   answer_to NoCase = NoCase
+
+  -- an operator throws only what every program has
+  abbrev pub Allowed : Answer → Type 0
+  Allowed (Gives v) = Unit {0}
+  Allowed (Raises k) = by_instructions k ≡ true
+  Allowed NoCase = Unit {0}
+
+  if_allowed : (b : Bool) (x y : Answer) → Allowed x → Allowed y → Allowed (if b then x else y)
+  if_allowed true x y p q = p
+  if_allowed false x y p q = q
+
+  checked_allowed : (integer : IntegerType) (n : ℤ) → Allowed (checked integer n)
+  checked_allowed integer n =
+      if_allowed (int_le (least integer) n && int_le n (greatest integer)) (Gives (cut integer (cast_unsigned w64 n))) (Raises Overflow) tt refl
+
+  by_signed_allowed : (w : Width) (x y : ℤ) (v : Value) → Allowed (by_signed w x y v)
+  by_signed_allowed w x y v =
+      if_allowed (is_zero w y) (Raises DivideByZero) (if is_least_by_minus_one w x y then Raises Arithmetic else Gives v) refl
+      (if_allowed (is_least_by_minus_one w x y) (Raises Arithmetic) (Gives v) refl tt)
+
+  arithmetic_allowed : (w : Width) (make : ℤ → Value) (operator : Operator) (x y : ℤ) → Allowed (arithmetic w make operator x y)
+  arithmetic_allowed w make Divide x y = by_signed_allowed w x y (make (int_div x y))
+  arithmetic_allowed w make Remainder x y = by_signed_allowed w x y (make (int_rem x y))
+  arithmetic_allowed w make DivideUnsigned x y = if_allowed (is_zero w y) (Raises DivideByZero) (Gives _) refl tt
+  arithmetic_allowed w make RemainderUnsigned x y = if_allowed (is_zero w y) (Raises DivideByZero) (Gives _) refl tt
+  arithmetic_allowed w make Add x y = tt
+  arithmetic_allowed w make Subtract x y = tt
+  arithmetic_allowed w make Multiply x y = tt
+  arithmetic_allowed w make And x y = tt
+  arithmetic_allowed w make Or x y = tt
+  arithmetic_allowed w make Xor x y = tt
+  arithmetic_allowed w make (AddChecked sign) x y = checked_allowed (integer_at w sign) _
+  arithmetic_allowed w make (SubtractChecked sign) x y = checked_allowed (integer_at w sign) _
+  arithmetic_allowed w make (MultiplyChecked sign) x y = checked_allowed (integer_at w sign) _
+
+  on_pair_allowed : (operator : Operator) (p : Pair) → Allowed (on_pair operator p)
+  on_pair_allowed operator (Ints x y) = arithmetic_allowed w32 Int operator x y
+  on_pair_allowed operator (Longs x y) = arithmetic_allowed w64 Long operator x y
+  on_pair_allowed operator (References b) = tt
+  on_pair_allowed operator Other = tt
+
+  pub binary_allowed : (operator : Operator) (x y : Value) → Allowed (binary operator x y)
+  unfolding binary
+  binary_allowed operator x y = on_pair_allowed operator (pair_of (sight_of x) (sight_of y))
+
+  on_convert_checked_allowed : (integer : IntegerType) (source : Sign) (a : Sight) → Allowed (on_convert_checked integer source a)
+  on_convert_checked_allowed integer source (AnInt n) = checked_allowed integer (read_as w32 source n)
+  on_convert_checked_allowed integer source (ALong n) = checked_allowed integer (read_as w64 source n)
+  on_convert_checked_allowed integer source ANull = tt
+  on_convert_checked_allowed integer source (AnObject n) = tt
+  on_convert_checked_allowed integer source Another = tt
+
+  pub convert_checked_allowed : (integer : IntegerType) (source : Sign) (x : Value) → Allowed (convert_checked integer source x)
+  unfolding convert_checked
+  convert_checked_allowed integer source x = on_convert_checked_allowed integer source (sight_of x)
 
   sight_law : (v : Value) → sight_of (value_to r v) ≡ sight_of v
   sight_law (Int n) = refl

@@ -4,7 +4,7 @@ use Rattle.std.specs.Prelude.{if◌then◌else◌}
 use Rattle.std.specs.List.{list_any}
 use Rattle.machine.specs.Data.{Id, id_eq, Value, Frame, State, End, Going, Returned, Threw}
 use Rattle.machine.specs.Program.{Program, Instruction, Nop, Return, Initialiser, Line}
-use Rattle.machine.specs.Throw.{on_some, goes, enter_clause, throw, raise, throw_thing}
+use Rattle.machine.specs.Throw.{on_some, goes, enter_clause, throw, raise, throw_thing, throw_exception}
 use Rattle.machine.specs.Rows.{on_frames}
 use Rattle.machine.specs.Objects.{load_field, store_field, load_field_address, load_static, store_static, load_static_address, load_text, load_indirect, store_indirect, new_array, load_length, load_element, store_element, load_element_address, cast_class, is_instance, box_value, unbox, unbox_value}
 use Rattle.machine.specs.Natives.{new_text, copy_elements, object_to_string, enum_equals, enum_to_string, array_length, array_copy, string_length, string_chars, string_concat, string_substring, string_equals, string_compare, string_from_chars, string_from_char, number_signed, number_unsigned, initialize_array, debug_print}
@@ -22,7 +22,7 @@ module _ (p : Program) (more : Id → ℕ → Option Line) (h : (m : Id) (at : �
   wide = record p { fetch = more }
 
   act_same : (s : State) (f : Frame) (fs : List Frame) (next : ℕ) (i : Instruction) → (i ≡ Return → ⊥) → act wide s f fs next i ≡ act p s f fs next i
-  unfolding goes enter_clause throw raise throw_thing starts invoke call call_virtual new_object load_field store_field load_field_address load_static store_static load_static_address load_text load_indirect store_indirect new_array load_length load_element store_element load_element_address cast_class is_instance box_value unbox unbox_value new_text copy_elements object_to_string enum_equals enum_to_string array_length array_copy string_length string_chars string_concat string_substring string_equals string_compare string_from_chars string_from_char number_signed number_unsigned initialize_array debug_print
+  unfolding goes enter_clause throw raise throw_thing throw_exception starts invoke call call_virtual new_object load_field store_field load_field_address load_static store_static load_static_address load_text load_indirect store_indirect new_array load_length load_element store_element load_element_address cast_class is_instance box_value unbox unbox_value new_text copy_elements object_to_string enum_equals enum_to_string array_length array_copy string_length string_chars string_concat string_substring string_equals string_compare string_from_chars string_from_char number_signed number_unsigned initialize_array debug_print
   act_same s f fs next Return n = absurd (n refl)
   act_same s f fs next _ n = refl
 
@@ -74,7 +74,7 @@ module _ (p : Program) (more : Id → ℕ → Option Line) (h : (m : Id) (at : �
   unfolding passes
   passes_same s most = refl
 
-  start_wide : start wide ≡ start p
+  pub start_wide : start wide ≡ start p
   unfolding start
   start_wide = refl
 

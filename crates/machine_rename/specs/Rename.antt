@@ -1,10 +1,11 @@
 -- One machine under two numberings: of types, methods, fields and places.
-use Rattle.std.specs.Prelude.{◌≡◌, ℕ, map}
+use Rattle.std.specs.Prelude.{◌≡◌, ◌⊎◌, ℕ, Bool, true, false, ◌||◌, map, Some}
 use Rattle.std.specs.Option.{option_map}
-use Rattle.mf_types.specs.declared.board.Known.{Known}
-use Rattle.mf_types.specs.declared.elem.Elem.{Elem}
+use Rattle.board_types.specs.declared.board.Known.{Known}
+use Rattle.board_types.specs.declared.board.Known.TheVariants.{NullReference, IndexOutOfRange, Overflow, Arithmetic, DivideByZero, InvalidCast, ArrayTypeMismatch, Argument, ArgumentNull, ArgumentOutOfRange}
+use Rattle.plain_types.specs.declared.elem.Elem.{Elem}
 use Rattle.machine.specs.Data.{Id, id_eq, CliType, Basic, EnumOf, ClassOf, ValueOf, ArrayOf, PlaceType, Plain, To, Value, Int, Long, Null, Object, Handle, Pointer, Thing, Instance, Text, Elements, Boxed, StaticCell, Slot, Nothing, Caught, Throwing, Leaving, Frame, Static, State, End, Going, Returned, Threw}
-use Rattle.machine.specs.Program.{Program, Access, Exact, Typed, Instruction, Nop, Push, Dup, Pop, LoadArgument, StoreArgument, LoadArgumentAddress, LoadLocal, StoreLocal, LoadLocalAddress, Binary, Shift, Unary, Compare, Convert, ConvertChecked, Branch, BranchIf, BranchCompare, Switch, Call, CallVirtual, NewObject, Return, LoadField, StoreField, LoadFieldAddress, LoadStatic, StoreStatic, LoadStaticAddress, LoadText, LoadIndirect, StoreIndirect, NewArray, LoadLength, LoadElement, StoreElement, LoadElementAddress, CastClass, IsInstance, Box, Unbox, UnboxAny, Throw, Rethrow, Leave, EndFinally, Initialiser, Line, ClauseKind, Catch, Final, Clause, Method}
+use Rattle.machine.specs.Program.{Program, Access, Exact, Typed, Instruction, Nop, Push, Dup, Pop, LoadArgument, StoreArgument, LoadArgumentAddress, LoadLocal, StoreLocal, LoadLocalAddress, Binary, Shift, Unary, Compare, Convert, ConvertChecked, Branch, BranchIf, BranchCompare, Switch, Call, CallVirtual, NewObject, Return, LoadField, StoreField, LoadFieldAddress, LoadStatic, StoreStatic, LoadStaticAddress, LoadText, LoadIndirect, StoreIndirect, NewArray, LoadLength, LoadElement, StoreElement, LoadElementAddress, CastClass, IsInstance, Box, Unbox, UnboxAny, Throw, Rethrow, Leave, EndFinally, Initialiser, Line, ClauseKind, Catch, Final, Clause, Method, Native, NativeName, ObjectToString, EnumEquals, EnumToString, ArrayLength, ArrayCopy, StringLength, StringChars, StringConcat, StringSubstring, StringEquals, StringCompare, StringFromChars, StringFromChar, NumberSigned, NumberUnsigned, InitializeArray, DebugPrint}
 use Rattle.machine.specs.Trace.{CodePlace, Finish, WithNumber, WithClass, MemorySpent, StepsSpent, NoCase, NoStart, Trace}
 
 -- from the one numbering to the other, total on all numbers
@@ -170,6 +171,64 @@ module _ (r : Renaming) where
   abbrev pub trace_to : Trace → Trace
   trace_to t = record { output = t.output; finish = finish_to t.finish }
 
+-- the exception classes that instructions throw, which every program has; the others are thrown by natives alone
+abbrev pub by_instructions : Known → Bool
+by_instructions NullReference = true
+by_instructions IndexOutOfRange = true
+by_instructions Overflow = true
+by_instructions Arithmetic = true
+by_instructions DivideByZero = true
+by_instructions InvalidCast = true
+by_instructions ArrayTypeMismatch = true
+by_instructions Argument = false
+by_instructions ArgumentNull = false
+by_instructions ArgumentOutOfRange = false
+
+abbrev pub of_argument : Known → Bool
+of_argument Argument = true
+of_argument _ = false
+
+abbrev pub of_null : Known → Bool
+of_null ArgumentNull = true
+of_null _ = false
+
+abbrev pub of_range : Known → Bool
+of_range ArgumentOutOfRange = true
+of_range _ = false
+
+-- which of these others a native throws
+abbrev pub throws : NativeName → Known → Bool
+throws ArrayCopy k = of_argument k || (of_null k || of_range k)
+throws StringSubstring k = of_range k
+throws StringFromChars k = of_null k || of_range k
+throws InitializeArray k = of_argument k
+throws ObjectToString k = false
+throws EnumEquals k = false
+throws EnumToString k = false
+throws ArrayLength k = false
+throws StringLength k = false
+throws StringChars k = false
+throws StringConcat k = false
+throws StringEquals k = false
+throws StringCompare k = false
+throws StringFromChar k = false
+throws NumberSigned k = false
+throws NumberUnsigned k = false
+throws DebugPrint k = false
+
+-- a native of the program that throws the class
+pub record Thrower (p : Program) (k : Known) : Type 0 where
+  pub id : Id
+  pub method : Method
+  pub name : NativeName
+  pub there : p.method id ≡ Some method
+  pub is : method.body ≡ Native name
+  pub throwing : throws name k ≡ true
+
+-- a class for which a run of the program may ask
+abbrev pub Asked : Program → Known → Type 0
+Asked p k = (by_instructions k ≡ true) ⊎ Thrower p k
+
 -- the two programs answer alike, whatever is asked
 pub record Answers (r : Renaming) (low high : Program) : Type 0 where
   pub types : (a b : Id) → id_eq (r.type a) (r.type b) ≡ id_eq a b
@@ -186,7 +245,9 @@ pub record Answers (r : Renaming) (low high : Program) : Type 0 where
   pub fields : (c : Id) → high.fields (r.type c) ≡ option_map (map (type_to r)) (low.fields c)
   pub static : (f : Id) → high.static (r.field f) ≡ option_map (type_to r) (low.static f)
   pub bytes : (f : Id) → high.bytes (r.field f) ≡ low.bytes f
-  pub known : (k : Known) → high.known k ≡ option_map r.type (low.known k)
+  -- a program need have such a class only where an instruction or a native of its own throws it
+  pub known : (k : Known) → Asked low k → high.known k ≡ option_map r.type (low.known k)
   pub basic : (e : Elem) → high.basic e ≡ option_map r.type (low.basic e)
   pub array : high.array ≡ option_map r.type low.array
+  pub exception : high.exception ≡ option_map r.type low.exception
   pub name : (c : Id) → high.name (r.type c) ≡ low.name c

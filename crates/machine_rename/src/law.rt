@@ -1,13 +1,14 @@
 //! Laws of runs and plans.
-ghost use Rattle.std.specs.Prelude.{◌≡◌, ℕ, ◌+◌, ◌-◌, ◌≤◌, Bool, List, ◌∷◌, Option, Some};
-ghost use Rattle.machine.specs.Data.{Id, end_of, Frame, Turn, Finally, State};
+ghost use Rattle.std.specs.Prelude.{◌≡◌, ℕ, ◌+◌, ◌-◌, ◌≤◌, Bool, false, List, ◌∷◌, Option, Some};
+ghost use Rattle.std.specs.Option.{option_map};
+ghost use Rattle.machine.specs.Data.{Id, end_of, Frame, Turn, Finally, State, Going};
 ghost use Rattle.machine.specs.Program.{Program, Method, Line, Clause};
 ghost use Rattle.machine.specs.Throw.{scan, route_of, search_frames, left};
 ghost use Rattle.machine.specs.Rows.{frames_cells};
 ghost use Rattle.machine.specs.Step.{step};
-ghost use Rattle.machine.specs.Trace.{cells, trace};
+ghost use Rattle.machine.specs.Trace.{cells, passes, StepsSpent, state_after, trace};
 ghost use Rattle.machine_rename.specs.Again.{again, left_again, Nested};
-ghost use Rattle.machine_rename.specs.Rename.{Renaming, Answers, trace_to};
+ghost use Rattle.machine_rename.specs.Rename.{Renaming, Answers, state_to, trace_to};
 ghost use Rattle.machine_rename.specs.Runs.{IsWithin, fetching, RunsOn, AreTwins};
 
 /// Two programs that answer alike under a renaming run alike: in equal cells for equal steps they print the same and end the same.
@@ -17,15 +18,29 @@ pub fn same_trace()
     ensures equal { (r : Renaming) (low high : Program) → Answers r low high → (n most : ℕ) → RunsOn low n most → trace high n most ≡ trace low n most }
 {}
 
+/// Their states are alike after each step: the one's is the other's, renamed, in as many cells.
+pub fn same_states()
+    ensures renamed { (r : Renaming) (low high : Program) → Answers r low high → (n : ℕ) → state_after high n ≡ option_map (state_to r) (state_after low n) }
+    ensures spacious { (r : Renaming) (low high : Program) → Answers r low high → (s : State) → cells high (state_to r s) ≡ cells low s }
+    ensures twins { (r : Renaming) (board ecma : Program) (board_starts ecma_starts : Id → ℕ → Option Line) → AreTwins r board ecma board_starts ecma_starts → (n : ℕ) (s : State) → state_after (fetching board board_starts) n ≡ Some s → (state_after board n ≡ Some s) × (state_after ecma n ≡ Some (state_to r s)) }
+{}
+
+/// A run whose steps are spent has come to a state: it has what the run shows, and goes on.
+pub fn steps_spent()
+    ensures { (p : Program) (n most : ℕ) → (trace p n most).finish ≡ StepsSpent → (s : State) × (state_after p n ≡ Some s) × (s.end ≡ Going) × (s.output ≡ (trace p n most).output) × (passes p s most ≡ false) }
+{}
+
 /// A program in which more places hold an instruction runs alike, as long as the other one meets no missing case.
 pub fn wider_trace()
     ensures { (p : Program) (more : Id → ℕ → Option Line) → IsWithin p.fetch more → (n most : ℕ) → RunsOn p n most → trace (fetching p more) n most ≡ trace p n most }
 {}
 
-/// Twins run alike, as long as the one of them meets no missing case at the starts of its instructions; and then neither does the other.
+/// Twins run alike, as long as the one of them meets no missing case at the starts of its instructions; and then neither does the other,
+/// and their states are alike.
 pub fn lockstep()
     ensures same { (r : Renaming) (board ecma : Program) (board_starts ecma_starts : Id → ℕ → Option Line) → AreTwins r board ecma board_starts ecma_starts → (n most : ℕ) → RunsOn (fetching ecma ecma_starts) n most → trace board n most ≡ trace ecma n most }
     ensures runs { (r : Renaming) (board ecma : Program) (board_starts ecma_starts : Id → ℕ → Option Line) → AreTwins r board ecma board_starts ecma_starts → (n most : ℕ) → RunsOn (fetching ecma ecma_starts) n most → RunsOn board n most }
+    ensures states { (r : Renaming) (board ecma : Program) (board_starts ecma_starts : Id → ℕ → Option Line) → AreTwins r board ecma board_starts ecma_starts → (n most : ℕ) → RunsOn (fetching ecma ecma_starts) n most → (trace board n most).finish ≡ StepsSpent → (s : State) × (state_after board n ≡ Some s) × (state_after ecma n ≡ Some (state_to r s)) }
 {}
 
 /// The rest of a plan is what is searched again from the finally that has ended: after the first finally of a frame, and after each

@@ -4,7 +4,7 @@ use Rattle.std.specs.Prelude.{ℤ, unsigned_abs, if◌then◌else◌, slice_get,
 use Rattle.std.proofs.Math.ListN.{length-set}
 use Rattle.std.proofs.lemmas.Bool.{lt-ltb}
 use Rattle.std.proofs.lemmas.Option.{slice_get_within}
-use Rattle.mf_types.specs.declared.board.Known.TheVariants.{NullReference, IndexOutOfRange, Overflow, ArrayTypeMismatch}
+use Rattle.board_types.specs.declared.board.Known.TheVariants.{NullReference, IndexOutOfRange, Overflow, ArrayTypeMismatch}
 use Rattle.machine.specs.Data.{CliType, ArrayOf, Cell, Bits, Refers, InObject, cell_of, put_thing, end_of, Value, Int, Long, Object, Pointer, Thing, Elements, Frame, State}
 use Rattle.machine.specs.Program.{Program, Method, Access, Exact, Typed, access_cell, NewArray, LoadLength, LoadElement, StoreElement, LoadElementAddress}
 use Rattle.machine.specs.Numbers.{is_long, is_negative, same_width, kept_in, zero_of, as_int}
@@ -141,14 +141,14 @@ module _ (p : Program) (t : Typing) (a : Accepted p t) (s : State) (f : Frame) (
   number_fits true _ b h = absurd h
 
   -- what is stored in an array of a type, if the test says so
-  stored_value : (wide c : Cell) (b : CliType) (w : Value) → cell_of b ≡ Some c → same_width c wide ≡ true → Storable wide w → (ok : Bool) × (value_fits p s.heap b w ≡ Some ok) × (ok ≡ true → (x : Value) × (kept_in c w ≡ Some x) × HasType p cx x (of_type b))
-  stored_value (Bits i) c b w ec sc h =
+  stored_value : (wide c : Cell) (b : CliType) (w : Value) → is_plain b ≡ true → cell_of b ≡ Some c → same_width c wide ≡ true → Storable wide w → (ok : Bool) × (value_fits p s.heap b w ≡ Some ok) × (ok ≡ true → (x : Value) × (kept_in c w ≡ Some x) × HasType p cx x (of_type b))
+  stored_value (Bits i) c b w plain ec sc h =
       let k = kept_wide p cx (Bits i) c b w (width_back c (Bits i) sc) h in
       (true, number_fits (is_long i) w b h, λ ok. (k.0, k.1, subst (HasType p cx k.0) (sym (type_held b c ec)) k.2))
-  stored_value Refers Refers b w ec sc h =
-      let x = fits_told p t a s f fs m n fr next ts us l have w h.0 h.1 h.2 b in
+  stored_value Refers Refers b w plain ec sc h =
+      let x = fits_told p t a s f fs m n fr next ts us l have w h.0 h.1 h.2 b plain in
       (x.0, x.1, λ ok. (w, kept_reference p cx w h.0 h.1 h.2, subst (HasType p cx w) (sym (type_held b Refers ec)) (x.2 ok)))
-  stored_value Refers (Bits i) b w ec sc h = absurd (cc sc)
+  stored_value Refers (Bits i) b w plain ec sc h = absurd (cc sc)
 
   pub store_element_fine : (access : Access) → effect p t.exception m (StoreElement access) ts ≡ Some us → Goes p t (store_element p s f fs next access)
   unfolding store_element
@@ -172,7 +172,7 @@ module _ (p : Program) (t : Typing) (a : Accepted p t) (s : State) (f : Frame) (
       let view = viewed access array.0 b wide.0 (and_left (array_takes p access array.0) _ both) wide.1 y.made z in
       cell_goes p t b wide.0 (elements_width p b view.type wide.0 view.fit view.width) _ (λ c ec sc.
       or_raise_fine p t a s f fs m n IndexOutOfRange (slice_get vs (index_of i)) _ fr (λ old eo.
-      let x = stored_value wide.0 c b k.0 ec sc k.2 in
+      let x = stored_value wide.0 c b k.0 (a.objects (ArrayOf b) y.made) ec sc k.2 in
       some_goes p t (value_fits p s.heap b k.0) x.0 _ x.1
       (at rest types hrest w.1 object b vs y c k.0 (index_of i) x.0 x.2))))))))))
     where

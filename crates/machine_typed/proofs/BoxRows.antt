@@ -1,15 +1,16 @@
 -- Casts and boxes.
-use Rattle.std.proofs.Common.{◌≡◌, ℕ, Bool, true, false, ◌&&◌, List, [], ◌∷◌, ◌++◌, Some, None, refl, sym, ap, ◌∙◌, subst}
-use Rattle.std.specs.Prelude.{if◌then◌else◌}
-use Rattle.std.specs.Option.{option_map}
+use Rattle.std.proofs.Common.{◌≡◌, ℕ, Bool, true, false, ◌&&◌, ◌||◌, List, [], ◌∷◌, ◌++◌, Option, Some, None, refl, sym, ap, ◌∙◌, subst}
+use Rattle.std.specs.Prelude.{if◌then◌else◌, is_some}
 use Rattle.cil_opcodes.specs.declared.shape.IntegerType.{IntegerType}
-use Rattle.mf_types.specs.declared.board.Known.TheVariants.{NullReference, InvalidCast}
-use Rattle.machine.specs.Data.{CliType, Basic, EnumOf, ClassOf, ValueOf, ArrayOf, Cell, Bits, Refers, InObject, cell_of, end_of, type_of, Value, Int, Long, Null, Object, Handle, Pointer, Thing, Instance, Text, Elements, Boxed, StaticCell, Frame, State}
+use Rattle.board_types.specs.declared.board.Known.TheVariants.{NullReference, InvalidCast}
+use Rattle.plain_types.specs.declared.elem.Elem.TheVariants as elem
+use Rattle.machine.specs.Data.{type_eq, CliType, Basic, EnumOf, ClassOf, ValueOf, ArrayOf, Cell, Bits, Refers, InObject, cell_of, end_of, type_of, Value, Int, Long, Null, Object, Handle, Pointer, Thing, Instance, Text, Elements, Boxed, StaticCell, Frame, State}
 use Rattle.machine.specs.Program.{Program, Method, CastClass, IsInstance, Box, Unbox, UnboxAny}
 use Rattle.machine.specs.Numbers.{kept_in}
 use Rattle.machine.specs.Throw.{on_some, goes, raise}
 use Rattle.machine.specs.Rows.{on_top}
-use Rattle.machine.specs.Objects.{value_fits, cast_class, is_instance, box_value, number_type, same_number, boxed_number, unbox, unbox_value, unbox_any}
+use Rattle.machine.specs.Objects.{are_named, elements_named, is_named, fits_named, value_fits, cast_class, is_instance, box_value, number_type, same_number, boxed_number, unbox, unbox_value, unbox_any}
+use Rattle.machine.specs.Natives.{class_of_type}
 use Rattle.machine_typed.specs.Typing.{StackType, O, Nil, P, of_type, is_plain, is_number, is_reference, agrees, assignable, when, effect}
 use Rattle.machine_typed.specs.Accepted.{Typing, Leads, Accepted}
 use Rattle.machine_typed.proofs.Heaps.{OfBox, mould_there, grows, some_same, and_left, and_right}
@@ -41,45 +42,95 @@ boxed_there type (Text units) old e = absurd (cc e)
 boxed_there type (Elements b vs) old e = absurd (cc e)
 boxed_there type (StaticCell own v) old e = absurd (cc e)
 
+or_last : (b c : Bool) → c ≡ true → (b || c) ≡ true
+or_last true c e = refl
+or_last false c e = e
+
+and_both : (b c : Bool) → b ≡ true → c ≡ true → (b && c) ≡ true
+and_both true c e g = g
+and_both false c e g = absurd (cc e)
+
+elements_there : (c d : Option Cell) (named : Bool) → named ≡ true → elements_named c d named ≡ true
+elements_there (Some Refers) (Some Refers) named e = e
+elements_there (Some Refers) (Some (Bits j)) named e = refl
+elements_there (Some Refers) None named e = refl
+elements_there (Some (Bits i)) d named e = refl
+elements_there None d named e = refl
+
 module _ (p : Program) (t : Typing) (a : Accepted p t) (s : State) (f : Frame) (fs : List Frame) (m : Method) (n : Now p t s f fs m) (fr : s.frames ≡ f ∷ fs) (next : ℕ) (ts us : List StackType) (l : Leads p t f.method f.place us next) (have : HaveAll p (over s.heap (f ∷ fs)) f.stack ts) where
   abbrev cx : Context
   cx = over s.heap (f ∷ fs)
 
+  -- each class is there by its name
+  class_there : (type : CliType) → is_plain type ≡ true → is_some (class_of_type p type) ≡ true
+  class_there (Basic e) h = ap is_some (a.basics e h).1
+  class_there (EnumOf e class) h = refl
+  class_there (ClassOf class) h = refl
+  class_there (ArrayOf element) h = ap is_some a.array_class.1
+  class_there (ValueOf class) h = absurd (cc h)
+
+  both_there : (own type : CliType) → is_plain own ≡ true → is_plain type ≡ true → are_named p own type ≡ true
+  both_there own type g h =
+      or_last (type_eq own type) _ (or_last (type_eq type (Basic elem.Object)) _
+      (and_both (is_some (class_of_type p own)) (is_some (class_of_type p type)) (class_there own g) (class_there type h)))
+
+  pub named_there : (own type : CliType) → is_plain own ≡ true → is_plain type ≡ true → is_named p own type ≡ true
+  named_there (ArrayOf c) (ArrayOf d) g h = elements_there (cell_of c) (cell_of d) _ (named_there c d g h)
+  named_there (ArrayOf c) (ClassOf d) g h = ap is_some a.array_class.1
+  named_there (ArrayOf c) (Basic e) g h = refl
+  named_there (ArrayOf c) (EnumOf e d) g h = refl
+  named_there (Basic e) (ArrayOf d) g h = refl
+  named_there (EnumOf e c) (ArrayOf d) g h = refl
+  named_there (ClassOf c) (ArrayOf d) g h = refl
+  named_there (Basic e) (Basic i) g h = both_there (Basic e) (Basic i) g h
+  named_there (Basic e) (EnumOf i d) g h = both_there (Basic e) (EnumOf i d) g h
+  named_there (Basic e) (ClassOf d) g h = both_there (Basic e) (ClassOf d) g h
+  named_there (EnumOf e c) (Basic i) g h = both_there (EnumOf e c) (Basic i) g h
+  named_there (EnumOf e c) (EnumOf i d) g h = both_there (EnumOf e c) (EnumOf i d) g h
+  named_there (EnumOf e c) (ClassOf d) g h = both_there (EnumOf e c) (ClassOf d) g h
+  named_there (ClassOf c) (Basic i) g h = both_there (ClassOf c) (Basic i) g h
+  named_there (ClassOf c) (EnumOf i d) g h = both_there (ClassOf c) (EnumOf i d) g h
+  named_there (ClassOf c) (ClassOf d) g h = both_there (ClassOf c) (ClassOf d) g h
+  named_there (ValueOf c) type g h = absurd (cc g)
+  named_there own (ValueOf d) g h = absurd (cc h)
+
   -- whether a reference is assignable is told, and where it is it has the type
-  pub fits_told : (v : Value) (u : StackType) → HasType p cx v u → is_reference u ≡ true → (type : CliType) → (ok : Bool) × (value_fits p s.heap type v ≡ Some ok) × (ok ≡ true → HasType p cx v (O type))
-  fits_told Null Nil h e type = (true, refl, λ ok. tt)
-  fits_told Null (O c) h e type = (true, refl, λ ok. tt)
-  fits_told (Object i) (O c) h e type =
+  pub fits_told : (v : Value) (u : StackType) → HasType p cx v u → is_reference u ≡ true → (type : CliType) → is_plain type ≡ true → (ok : Bool) × (value_fits p s.heap type v ≡ Some ok) × (ok ≡ true → HasType p cx v (O type))
+  fits_told Null Nil h e type plain = (true, refl, λ ok. tt)
+  fits_told Null (O c) h e type plain = (true, refl, λ ok. tt)
+  fits_told (Object i) (O c) h e type plain =
       let y = there_at p t a s.heap n.stored.heap i h.own h.at in (
         p.fits h.own type,
-        ap (λ o. on_some o (λ x. option_map (λ own. p.fits own type) (type_of x))) y.at ∙ ap (option_map (λ own. p.fits own type)) y.type,
+        ap (λ o. on_some o (λ x. on_some (type_of x) (λ own. fits_named p own type))) y.at
+            ∙ ap (λ o. on_some o (λ own. fits_named p own type)) y.type
+            ∙ ap (λ (b : Bool). if b then Some (p.fits h.own type) else None) (named_there h.own type (a.objects h.own y.made) plain),
         λ ok. record { own = h.own; at = h.at; below = ok },
       )
-  fits_told (Int i) u h e type = absurd (not_int u h e)
+  fits_told (Int i) u h e type plain = absurd (not_int u h e)
     where
       not_int : (u : StackType) → HasType p cx (Int i) u → is_reference u ≡ true → ⊥
       not_int Nil h e = h
       not_int (O c) h e = h
       not_int _ h e = cc e
-  fits_told (Long i) u h e type = absurd (not_long u h e)
+  fits_told (Long i) u h e type plain = absurd (not_long u h e)
     where
       not_long : (u : StackType) → HasType p cx (Long i) u → is_reference u ≡ true → ⊥
       not_long Nil h e = h
       not_long (O c) h e = h
       not_long _ h e = cc e
-  fits_told (Handle i) u h e type = absurd (not_handle u h e)
+  fits_told (Handle i) u h e type plain = absurd (not_handle u h e)
     where
       not_handle : (u : StackType) → HasType p cx (Handle i) u → is_reference u ≡ true → ⊥
       not_handle Nil h e = h
       not_handle (O c) h e = h
       not_handle _ h e = cc e
-  fits_told (Pointer i x) u h e type = absurd (not_pointer u h e)
+  fits_told (Pointer i x) u h e type plain = absurd (not_pointer u h e)
     where
       not_pointer : (u : StackType) → HasType p cx (Pointer i x) u → is_reference u ≡ true → ⊥
       not_pointer Nil h e = h
       not_pointer (O c) h e = h
       not_pointer _ h e = cc e
-  fits_told _ _ h e type = absurd h
+  fits_told _ _ h e type plain = absurd h
 
   cast_goes : (type : CliType) (z : StackType) → O type ≡ z → on_top ts (λ t rest. when (is_reference t && is_plain type) (Some (z ∷ rest))) ≡ Some us → Goes p t (cast_class p s f fs next type)
   unfolding cast_class
@@ -87,7 +138,7 @@ module _ (p : Program) (t : Typing) (a : Accepted p t) (s : State) (f : Frame) (
       top_goes p t cx f.stack ts _ _ us have e (λ v rest u types hv hrest e1.
       let w = when_inv (is_reference u && is_plain type) _ us e1 in
       let r = and_left (is_reference u) (is_plain type) w.0 in
-      let x = fits_told v u hv r type in
+      let x = fits_told v u hv r type (and_right (is_reference u) (is_plain type) w.0) in
       some_goes p t (kept_in Refers v) v _ (kept_reference p cx v u hv r)
       (some_goes p t (value_fits p s.heap type v) x.0 _ x.1 (at v rest types hrest w.1 x.0 x.2)))
     where
@@ -104,7 +155,7 @@ module _ (p : Program) (t : Typing) (a : Accepted p t) (s : State) (f : Frame) (
       top_goes p t cx f.stack ts _ _ us have e (λ v rest u types hv hrest e1.
       let w = when_inv (is_reference u && is_plain type) _ us e1 in
       let r = and_left (is_reference u) (is_plain type) w.0 in
-      let x = fits_told v u hv r type in
+      let x = fits_told v u hv r type (and_right (is_reference u) (is_plain type) w.0) in
       some_goes p t (kept_in Refers v) v _ (kept_reference p cx v u hv r)
       (some_goes p t (value_fits p s.heap type v) x.0 _ x.1
       (leads_fine p t a s f fs m n next ((if x.0 then v else Null) ∷ rest) (O type ∷ types) us l w.1 (at v x.0 x.2, hrest))))

@@ -2,8 +2,8 @@
 use Rattle.std.proofs.Common.{◌≡◌, ℕ, ◌-◌, Bool, true, false, ◌&&◌, List, [], ◌∷◌, ◌++◌, map, length, Option, Some, None, refl, sym, ap, ◌∙◌, subst, arith}
 use Rattle.std.specs.Prelude.{ℤ}
 use Rattle.std.specs.Option.{option_map}
-use Rattle.mf_types.specs.declared.board.Known.TheVariants.{NullReference}
-use Rattle.mf_types.specs.declared.elem.Elem.TheVariants as elem
+use Rattle.board_types.specs.declared.board.Known.TheVariants.{NullReference}
+use Rattle.plain_types.specs.declared.elem.Elem.TheVariants as elem
 use Rattle.machine.specs.Data.{Id, CliType, Basic, ClassOf, PlaceType, Plain, To, Bits, Refers, InObject, cell_of, end_of, type_of, Value, Object, Pointer, Thing, Instance, Boxed, Frame, State, Returned}
 use Rattle.machine.specs.Program.{Program, Line, Method, Body, Code, Native, Missing, Call, CallVirtual, NewObject}
 use Rattle.machine.specs.Numbers.{zero_of, as_int}

@@ -4,7 +4,7 @@ use Rattle.cil_opcodes.specs.declared.shape.IntegerType.TheVariants.{U1, I2, I4,
 use Rattle.cil_opcodes.specs.declared.shape.Operator.TheVariants.{Divide}
 use Rattle.cil_opcodes.specs.declared.shape.ShiftOperator.TheVariants.{Left}
 use Rattle.cil_opcodes.specs.declared.shape.Comparison.TheVariants.{Equal, Greater, GreaterUnsigned}
-use Rattle.mf_types.specs.declared.elem.Elem.TheVariants as elem
+use Rattle.plain_types.specs.declared.elem.Elem.TheVariants as elem
 use Rattle.machine.specs.Data.{CliType, Basic, ClassOf, ArrayOf, Bits, Refers}
 use Rattle.machine.specs.Program.{Instruction, Exact, Typed, Binary, Shift, Compare, Convert, BranchIf, BranchCompare, Call, Return, LoadIndirect, StoreIndirect, LoadLength, LoadElement, StoreElement, LoadElementAddress, CastClass, Box, Unbox, UnboxAny, Throw}
 use Rattle.machine_typed.specs.Typing.{StackType, I, L, Nil, O, P, effect}

@@ -2,7 +2,7 @@
 use Rattle.std.proofs.Common.{◌≡◌, ℕ, Bool, true, false, List, [], ◌∷◌, ◌++◌, length, Option, Some, None, refl, sym, ap, ◌∙◌, subst}
 use Rattle.std.specs.Prelude.{if◌then◌else◌, slice_get, slice_set}
 use Rattle.std.specs.Option.{option_map}
-use Rattle.mf_types.specs.declared.elem.Elem.TheVariants as elem
+use Rattle.plain_types.specs.declared.elem.Elem.TheVariants as elem
 use Rattle.machine.specs.Data.{Id, id_eq, CliType, Basic, ClassOf, Plain, InObject, cell_of, thing_at, put_thing, end_of, Value, Object, Pointer, Thing, Instance, Text, Elements, Boxed, StaticCell, Frame, State}
 use Rattle.machine.specs.Program.{Program, Method, LoadField, StoreField, LoadFieldAddress, LoadStatic, StoreStatic, LoadStaticAddress, LoadText}
 use Rattle.machine.specs.Numbers.{kept, zero_of}

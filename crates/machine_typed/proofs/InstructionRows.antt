@@ -9,7 +9,7 @@ use Rattle.machine.specs.Numbers.{agree, is_long, of_bool, binary, shift, unary,
 use Rattle.machine.specs.Throw.{on_some, goes}
 use Rattle.machine.specs.Rows.{on_frames}
 use Rattle.machine.specs.Objects.{literal_object}
-use Rattle.machine.specs.Calls.{start_frame, start_code, start_class}
+use Rattle.machine.specs.Calls.{start_frame, if_none, start_code, start_class}
 use Rattle.machine.specs.Step.{branch_if, act, after_start, step}
 use Rattle.machine_typed.specs.Typing.{StackType, I, O, number, loaded, sort_of, binary_type, shift_type, unary_type, compares_references, branches_on_references, is_comparable, is_condition, is_int, type_of_constant, assignable, effect}
 use Rattle.machine_typed.specs.Accepted.{Typing, Leads, Flows, Needs, LineFits, MethodFits, BodyFits, Accepted}
@@ -176,6 +176,7 @@ module _ (p : Program) (t : Typing) (a : Accepted p t) where
   initialiser_fine s f fs m n fr met i w =
       some_goes p t (p.method i.method) w.0 _ w.1
       (subst (λ b. Goes p t (start_code p s i w.0 b)) (sym w.3)
+      (subst (λ ks. Goes p t (if_none ks (Some (record s { started = i.class ∷ s.started; frames = start_frame true i.method w.0 [] ∷ s.frames })))) (sym w.2)
       (subst (λ q. Goes p t (Some (record s { started = i.class ∷ s.started; frames = start_frame true i.method w.0 [] ∷ q }))) (sym fr)
       (subst (FineAt p t (record s { started = i.class ∷ s.started; frames = start_frame true i.method w.0 [] ∷ f ∷ fs })) (sym n.stored.going) (
         record { heap = n.stored.heap; statics = n.stored.statics; literals = n.stored.literals; going = n.stored.going },
@@ -186,7 +187,7 @@ module _ (p : Program) (t : Typing) (a : Accepted p t) where
           record { types = []; typed = callee.begin; stack = tt },
           (m, n.base, n.slots, met, n.callers),
         ),
-      ))))
+      )))))
     where
       callee : MethodFits p t i.method w.0
       callee = subst (λ b. BodyFits p t i.method w.0 b) w.3 (a.methods i.method w.0 w.1)

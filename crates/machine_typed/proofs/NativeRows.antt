@@ -6,16 +6,16 @@ use Rattle.std.specs.Option.{option_map}
 use Rattle.std.proofs.lemmas.Bool.{ltb-false}
 use Rattle.cil_opcodes.specs.declared.shape.IntegerType.{IntegerType}
 use Rattle.cil_opcodes.specs.declared.shape.IntegerType.TheVariants.{I1, U1, I2, U2, I4, U4, I8, U8}
-use Rattle.mf_types.specs.declared.board.Known.TheVariants.{NullReference, IndexOutOfRange, ArrayTypeMismatch, Argument, ArgumentNull, ArgumentOutOfRange}
-use Rattle.mf_types.specs.declared.elem.Elem.{Elem}
-use Rattle.mf_types.specs.declared.elem.Elem.TheVariants as elem
-use Rattle.machine.specs.Data.{Id, CliType, Basic, EnumOf, ClassOf, ValueOf, ArrayOf, PlaceType, Cell, Bits, Refers, cell_of, elem_cell, bytes_of, type_eq, put_thing, end_of, type_of, Value, Int, Long, Null, Object, Handle, Pointer, Text, Elements, Frame, State}
+use Rattle.board_types.specs.declared.board.Known.TheVariants.{NullReference, IndexOutOfRange, ArrayTypeMismatch, Argument, ArgumentNull, ArgumentOutOfRange}
+use Rattle.plain_types.specs.declared.elem.Elem.{Elem}
+use Rattle.plain_types.specs.declared.elem.Elem.TheVariants as elem
+use Rattle.machine.specs.Data.{thing_at, Id, CliType, Basic, EnumOf, ClassOf, ValueOf, ArrayOf, PlaceType, Cell, Bits, Refers, cell_of, elem_cell, bytes_of, type_eq, put_thing, end_of, type_of, Value, Int, Long, Null, Object, Handle, Pointer, Text, Elements, Frame, State}
 use Rattle.machine.specs.Program.{Program, Method, NativeName, ObjectToString, EnumEquals, EnumToString, ArrayLength, ArrayCopy, StringLength, StringChars, StringConcat, StringSubstring, StringEquals, StringCompare, StringFromChars, StringFromChar, NumberSigned, NumberUnsigned, InitializeArray, DebugPrint}
 use Rattle.machine.specs.Numbers.{is_long, is_negative, of_bool, little_endian, number_in, as_int, as_long, as_handle}
 use Rattle.machine.specs.Texts.{printed, units_of_name, with_brackets, decimal_text}
 use Rattle.machine.specs.Throw.{on_some, goes, raise}
 use Rattle.machine.specs.Rows.{on_top, on_thing, on_elements, length_value, index_of}
-use Rattle.machine.specs.Natives.{name_of, units_of, text_at, or_empty, texts_equal, texts_compared, unit_of, new_text, is_range, piece, spliced, on_enum, is_box_of, equals_box, number_text, copy_elements, numbers_of, initialise, on_string, object_to_string, enum_equals, enum_to_string, array_length, array_copy, string_length, string_chars, string_concat, string_substring, string_equals, string_compare, string_from_chars, string_from_char, number_signed, number_unsigned, initialize_array, debug_print, native}
+use Rattle.machine.specs.Natives.{on_array_or_null, name_of, units_of, text_at, or_empty, texts_equal, texts_compared, unit_of, new_text, is_range, piece, spliced, on_enum, is_box_of, equals_box, number_text, copy_elements, numbers_of, initialise, on_string, object_to_string, enum_equals, enum_to_string, array_length, array_copy, string_length, string_chars, string_concat, string_substring, string_equals, string_compare, string_from_chars, string_from_char, number_signed, number_unsigned, initialize_array, debug_print, native}
 use Rattle.machine_typed.specs.Typing.{StackType, I, L, O, H, number, of_type, loaded, is_plain, ArrayWith, with_type}
 use Rattle.machine_typed.specs.Accepted.{Typing, is_array, OnlyEnums, OnlyArrays, NativeFits, Leads, Accepted}
 use Rattle.machine_typed.proofs.Heaps.{OfElements, grows, puts}
@@ -230,19 +230,31 @@ module _ (p : Program) (t : Typing) (a : Accepted p t) (s : State) (f : Frame) (
       int_goes i hi _ (λ i.
       int_goes j hj _ (λ j.
       int_goes k hk _ (λ k.
+      array_goes source hsource _ (array_goes destination hdestination _ (
       thing_goes p t a s f fs m n ArgumentNull fr source (ClassOf c) hsource _ (λ from own x below.
       thing_goes p t a s f fs m n ArgumentNull fr destination (ClassOf c) hdestination _ (λ object own' y below'.
       let xs = elements_of from own x (only own x.made below) in
       let ys = elements_of object own' y (only own' y.made below') in
       subst (λ z. Goes p t (on_elements z (λ b vs. on_elements y.thing (λ c ws. copy_elements p s f fs next rest object b vs c ws i j k)))) (sym xs.2)
       (subst (λ z. Goes p t (on_elements z (λ c ws. copy_elements p s f fs next rest object xs.0 xs.1 c ws i j k))) (sym ys.2)
-      (copy_fine object from xs.0 ys.0 xs.1 ys.1 xs.3 ys.3 e i j k))))))))))))
+      (copy_fine object from xs.0 ys.0 xs.1 ys.1 xs.3 ys.3 e i j k))))))))))))))
     where
       elements_of : (object : ℕ) (own : CliType) (x : There p t a s.heap object own) → is_array own ≡ true → (b : CliType) × (vs : List Value) × (x.thing ≡ Elements b vs) × Array p t a s f fs m n fr object b vs
       elements_of object own x h =
           let b = array_type p t own h in
           let y = elements_there p t (over s.heap []) x.thing x.fits b.0 (x.type ∙ ap Some b.1) in
           (b.0, y.0, y.1, record { at = x.at ∙ ap Some y.1; every = y.2; plain = y.3; made = y.4 })
+
+      array_goes : (v : Value) → HasType p cx v (O (ClassOf c)) → (o : Option State) → Goes p t o → Goes p t (on_array_or_null s.heap v o)
+      array_goes (Object i) h o g =
+          let y = there_at p t a s.heap n.stored.heap i h.own h.at in
+          let xs = elements_of i h.own y (only h.own y.made h.below) in
+          some_goes p t (thing_at s.heap i) y.thing _ y.at (subst (λ z. Goes p t (on_elements z (λ element values. o))) (sym xs.2) g)
+      array_goes Null h o g = g
+      array_goes (Int i) h o g = absurd h
+      array_goes (Long i) h o g = absurd h
+      array_goes (Handle i) h o g = absurd h
+      array_goes (Pointer i x) h o g = absurd h
 
   initialise_fine : (object : ℕ) (b : CliType) (vs : List Value) (bytes : List ℕ) → Array p t a s f fs m n fr object b vs → Some types ≡ Some us → (c : Cell) → cell_of b ≡ Some c → Goes p t (initialise p s f fs next rest object b vs bytes c)
   initialise_fine object b vs bytes y e Refers ec = raise_fine p t a s f fs m n fr Argument
@@ -285,7 +297,8 @@ module _ (p : Program) (t : Typing) (a : Accepted p t) (s : State) (f : Frame) (
       top_have v1 I [] _ h1 (λ index v2 hindex h2.
       int_goes index hindex _ (λ i.
       string_goes v hv _ (λ units.
-      or_raise_fine p t a s f fs m n IndexOutOfRange (slice_get units (index_of i)) _ fr (λ u eu. gives (Int (pos u)) I e tt)))))
+      if_goes p t (is_negative i) (raise p s IndexOutOfRange) _ (raise_fine p t a s f fs m n fr IndexOutOfRange)
+      (or_raise_fine p t a s f fs m n IndexOutOfRange (slice_get units (index_of i)) _ fr (λ u eu. gives (Int (pos u)) I e tt))))))
 
   string_concat_fine : (vs : List Value) → HaveAll p cx vs (string ∷ string ∷ []) → Some (string ∷ types) ≡ Some us → Goes p t (string_concat p s f fs next rest vs)
   unfolding string_concat

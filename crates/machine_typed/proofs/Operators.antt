@@ -13,7 +13,7 @@ use Rattle.cil_opcodes.specs.declared.shape.UnaryOperator.{UnaryOperator}
 use Rattle.cil_opcodes.specs.declared.shape.ShiftOperator.{ShiftOperator}
 use Rattle.cil_opcodes.specs.declared.shape.Comparison.{Comparison}
 use Rattle.cil_opcodes.specs.declared.shape.Comparison.TheVariants.{Equal, Greater, GreaterUnsigned, Less, LessUnsigned}
-use Rattle.mf_types.specs.declared.board.Known.TheVariants.{Overflow, Arithmetic, DivideByZero}
+use Rattle.board_types.specs.declared.board.Known.TheVariants.{Overflow, Arithmetic, DivideByZero}
 use Rattle.machine.specs.Data.{Value, Int, Long, Null, Object, Handle, Pointer}
 use Rattle.machine.specs.Program.{Program}
 use Rattle.machine.specs.Numbers.{Answer, Gives, Raises, NoCase, Sight, AnInt, ALong, ANull, AnObject, Another, sight_of, pair_of, References, on_pair, binary, arithmetic, checked, integer_at, by_signed, by_unsigned, is_zero, is_least_by_minus_one, least, greatest, cut, is_long, shift, on_shift, shifted, inverted, unary, on_unary, compare, compared, branch_compare, branch_compared, convert, on_convert, convert_checked, on_convert_checked, truth, as_int}

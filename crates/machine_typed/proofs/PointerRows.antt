@@ -65,12 +65,12 @@ module _ (p : Program) (t : Typing) where
     pub base : Base p t heap frame callers method
 
   found_here : (heap : List Thing) (f : Frame) (fs : List Frame) (m : Method) → Base p t heap f fs m → (depth : ℕ) (id : Id) → (id_at p (map (λ (g : Frame). g.method) fs) depth ≡ Some id → Found heap fs depth id) → id_at p (f.method ∷ map (λ (g : Frame). g.method) fs) depth ≡ Some id → Found heap (f ∷ fs) depth id
-  found_here heap f fs m b depth id later e = at (frames_cells p fs == depth) refl later
+  found_here heap f fs m b depth id later e = at (frames_cells p (f ∷ fs) == depth) refl later
     where
-      same_test : (b : Bool) → (frames_cells p fs == depth) ≡ b → (chain_cells p (map (λ (g : Frame). g.method) fs) == depth) ≡ b
-      same_test b x = ap (λ n. n == depth) (chain_law p fs) ∙ x
+      same_test : (b : Bool) → (frames_cells p (f ∷ fs) == depth) ≡ b → (chain_cells p (f.method ∷ map (λ (g : Frame). g.method) fs) == depth) ≡ b
+      same_test b x = ap (λ n. n == depth) (chain_law p (f ∷ fs)) ∙ x
 
-      at : (b : Bool) → (frames_cells p fs == depth) ≡ b → (id_at p (map (λ (g : Frame). g.method) fs) depth ≡ Some id → Found heap fs depth id) → Found heap (f ∷ fs) depth id
+      at : (b : Bool) → (frames_cells p (f ∷ fs) == depth) ≡ b → (id_at p (map (λ (g : Frame). g.method) fs) depth ≡ Some id → Found heap fs depth id) → Found heap (f ∷ fs) depth id
       at true x rest =
           record {
             frame = f;
@@ -102,7 +102,7 @@ module _ (p : Program) (t : Typing) where
 
     chain_put : (fs : List Frame) (g : Frame) → frame_at p fs depth ≡ Some g → map (λ (f : Frame). f.method) (put_frame p fs depth (poke g)) ≡ map (λ (f : Frame). f.method) fs
     chain_put [] g e = absurd (cc e)
-    chain_put (f ∷ fs) g e = at (frames_cells p fs == depth) e (λ x. chain_put fs g x)
+    chain_put (f ∷ fs) g e = at (frames_cells p (f ∷ fs) == depth) e (λ x. chain_put fs g x)
       where
         at : (b : Bool) → (if b then Some f else frame_at p fs depth) ≡ Some g → (frame_at p fs depth ≡ Some g → map (λ (f : Frame). f.method) (put_frame p fs depth (poke g)) ≡ map (λ (f : Frame). f.method) fs) → map (λ (f : Frame). f.method) (if b then poke g ∷ fs else f ∷ put_frame p fs depth (poke g)) ≡ f.method ∷ map (λ (f : Frame). f.method) fs
         at true x ih = ap (λ (q : Frame). q.method ∷ map (λ (f : Frame). f.method) fs) (sym (some_same f g x))
@@ -114,7 +114,7 @@ module _ (p : Program) (t : Typing) where
         (h.0, h.1, route_put (Around p t id h.0.clause.start k) id fs g e turns catch object h.2)
     route_put running id [] g e (EndFrame ∷ turns) catch object h = absurd h
     route_put running id (f ∷ fs) g e (EndFrame ∷ turns) catch object h =
-        at (frames_cells p fs == depth) e (λ x. route_put (λ i. t.handled f.method i f.place ≡ true) f.method fs g x turns catch object h)
+        at (frames_cells p (f ∷ fs) == depth) e (λ x. route_put (λ i. t.handled f.method i f.place ≡ true) f.method fs g x turns catch object h)
       where
         at : (b : Bool) → (if b then Some f else frame_at p fs depth) ≡ Some g → (frame_at p fs depth ≡ Some g → Route p t heap (λ i. t.handled f.method i f.place ≡ true) f.method (put_frame p fs depth (poke g)) turns catch object) → Route p t heap running id (if b then poke g ∷ fs else f ∷ put_frame p fs depth (poke g)) (EndFrame ∷ turns) catch object
         at true x ih = subst (λ (q : Frame). Route p t heap (λ i. t.handled q.method i q.place ≡ true) q.method fs turns catch object) (some_same f g x) h
@@ -158,7 +158,7 @@ module _ (p : Program) (t : Typing) where
 
     callers_put : (b : Bool) (r : Option PlaceType) (fs : List Frame) → Callers p t heap b r fs → (g : Frame) → frame_at p fs depth ≡ Some g → ((gs : List Frame) (mg : Method) → Base p t heap g gs mg → HaveAll p (over heap (g ∷ gs)) (xs_ g) (map loaded mg.arguments) × HaveAll p (over heap (g ∷ gs)) (ys_ g) (map loaded mg.locals)) → Callers p t heap b r (put_frame p fs depth (poke g))
     callers_put b r [] c g e fit = absurd (cc e)
-    callers_put b r (f ∷ fs) c g e fit = at (frames_cells p fs == depth) e (λ x. callers_put f.initialiser c.0.returns fs c.4 g x fit)
+    callers_put b r (f ∷ fs) c g e fit = at (frames_cells p (f ∷ fs) == depth) e (λ x. callers_put f.initialiser c.0.returns fs c.4 g x fit)
       where
         at : (q : Bool) → (if q then Some f else frame_at p fs depth) ≡ Some g → (frame_at p fs depth ≡ Some g → Callers p t heap f.initialiser c.0.returns (put_frame p fs depth (poke g))) → Callers p t heap b r (if q then poke g ∷ fs else f ∷ put_frame p fs depth (poke g))
         at true x ih =
@@ -223,7 +223,7 @@ module _ (p : Program) (t : Typing) (a : Accepted p t) where
 
   write_fine : (s : State) (f : Frame) (fs : List Frame) (m : Method) → Now p t s f fs m → (own : CliType) (x : Spot) → LeadsTo p (over s.heap (f ∷ fs)) own x → (v : Value) → HasType p (over s.heap (f ∷ fs)) v (of_type own) → (w : Written) × (write p s f fs x v ≡ Some w) × Done p t s f fs m w
   write_fine s f fs m n own (InArgument depth i) h v hv =
-      at (frames_cells p fs == depth) refl g.is
+      at (frames_cells p (f ∷ fs) == depth) refl g.is
     where
       g : Found p t s.heap (f ∷ fs) depth h.id
       g = found_in p t s.heap f fs m n.base n.callers depth h.id h.there
@@ -239,7 +239,7 @@ module _ (p : Program) (t : Typing) (a : Accepted p t) where
       set : (q : Frame) (gs : List Frame) (mg : Method) → Base p t s.heap q gs mg → q.method ≡ h.id → HaveAll p (over s.heap (q ∷ gs)) (slice_set q.arguments i v) (map loaded mg.arguments)
       set q gs mg b same = set_have p (over s.heap (q ∷ gs)) q.arguments (map loaded mg.arguments) i (of_type own) v b.arguments (get_map loaded mg.arguments i (Plain own) (type_at q gs mg b same)) (seen (q ∷ gs))
 
-      at : (b : Bool) → (frames_cells p fs == depth) ≡ b → (if b then Some f else frame_at p fs depth) ≡ Some g.frame → (w : Written) × ((if b then Some (record { state = s; arguments = slice_set f.arguments i v; locals = f.locals; callers = fs }) else on_some (frame_at p fs depth) (λ (g : Frame). Some (record { state = s; arguments = f.arguments; locals = f.locals; callers = put_frame p fs depth (record g { arguments = slice_set g.arguments i v }) }))) ≡ Some w) × Done p t s f fs m w
+      at : (b : Bool) → (frames_cells p (f ∷ fs) == depth) ≡ b → (if b then Some f else frame_at p fs depth) ≡ Some g.frame → (w : Written) × ((if b then Some (record { state = s; arguments = slice_set f.arguments i v; locals = f.locals; callers = fs }) else on_some (frame_at p fs depth) (λ (g : Frame). Some (record { state = s; arguments = f.arguments; locals = f.locals; callers = put_frame p fs depth (record g { arguments = slice_set g.arguments i v }) }))) ≡ Some w) × Done p t s f fs m w
       at true y e =
           let same : f.method ≡ h.id = ap (λ (q : Frame). q.method) (some_same f g.frame e) ∙ g.same in (
             record { state = s; arguments = slice_set f.arguments i v; locals = f.locals; callers = fs },
@@ -260,7 +260,7 @@ module _ (p : Program) (t : Typing) (a : Accepted p t) where
         write_below p t s f fs m n depth (λ q. slice_set q.arguments i v) (λ q. q.locals) g.frame e (λ gs mg b. (set g.frame gs mg b g.same, b.locals)),
       )
   write_fine s f fs m n own (InLocal depth i) h v hv =
-      at (frames_cells p fs == depth) refl g.is
+      at (frames_cells p (f ∷ fs) == depth) refl g.is
     where
       g : Found p t s.heap (f ∷ fs) depth h.id
       g = found_in p t s.heap f fs m n.base n.callers depth h.id h.there
@@ -276,7 +276,7 @@ module _ (p : Program) (t : Typing) (a : Accepted p t) where
       set : (q : Frame) (gs : List Frame) (mg : Method) → Base p t s.heap q gs mg → q.method ≡ h.id → HaveAll p (over s.heap (q ∷ gs)) (slice_set q.locals i v) (map loaded mg.locals)
       set q gs mg b same = set_have p (over s.heap (q ∷ gs)) q.locals (map loaded mg.locals) i (of_type own) v b.locals (get_map loaded mg.locals i (Plain own) (type_at q gs mg b same)) (seen (q ∷ gs))
 
-      at : (b : Bool) → (frames_cells p fs == depth) ≡ b → (if b then Some f else frame_at p fs depth) ≡ Some g.frame → (w : Written) × ((if b then Some (record { state = s; arguments = f.arguments; locals = slice_set f.locals i v; callers = fs }) else on_some (frame_at p fs depth) (λ (g : Frame). Some (record { state = s; arguments = f.arguments; locals = f.locals; callers = put_frame p fs depth (record g { locals = slice_set g.locals i v }) }))) ≡ Some w) × Done p t s f fs m w
+      at : (b : Bool) → (frames_cells p (f ∷ fs) == depth) ≡ b → (if b then Some f else frame_at p fs depth) ≡ Some g.frame → (w : Written) × ((if b then Some (record { state = s; arguments = f.arguments; locals = slice_set f.locals i v; callers = fs }) else on_some (frame_at p fs depth) (λ (g : Frame). Some (record { state = s; arguments = f.arguments; locals = f.locals; callers = put_frame p fs depth (record g { locals = slice_set g.locals i v }) }))) ≡ Some w) × Done p t s f fs m w
       at true y e =
           let same : f.method ≡ h.id = ap (λ (q : Frame). q.method) (some_same f g.frame e) ∙ g.same in (
             record { state = s; arguments = f.arguments; locals = slice_set f.locals i v; callers = fs },
@@ -374,10 +374,10 @@ module _ (p : Program) (t : Typing) (a : Accepted p t) (s : State) (f : Frame) (
       (have_more p cx (over r.0.state.heap (f ∷ r.0.callers)) r.2.reach rest types hrest))))))))
 
   -- an address in the frame itself
-  own_chain : (i : Id) (fs : List Frame) → id_at p (i ∷ map (λ (f : Frame). f.method) fs) (frames_cells p fs) ≡ Some i
-  own_chain i fs =
-      let yes : (chain_cells p (map (λ (f : Frame). f.method) fs) == frames_cells p fs) ≡ true = eq-eqb _ _ (chain_law p fs) in
-      subst (λ (b : Bool). (if b then Some i else id_at p (map (λ (f : Frame). f.method) fs) (frames_cells p fs)) ≡ Some i) (sym yes) refl
+  own_chain : (f : Frame) (fs : List Frame) → id_at p (f.method ∷ map (λ (f : Frame). f.method) fs) (frames_cells p (f ∷ fs)) ≡ Some f.method
+  own_chain f fs =
+      let yes : (chain_cells p (f.method ∷ map (λ (f : Frame). f.method) fs) == frames_cells p (f ∷ fs)) ≡ true = eq-eqb _ _ (chain_law p (f ∷ fs)) in
+      subst (λ (b : Bool). (if b then Some f.method else id_at p (map (λ (f : Frame). f.method) fs) (frames_cells p (f ∷ fs))) ≡ Some f.method) (sym yes) refl
 
   address_of : (k : PlaceType) → address_type k ts ≡ Some us → (type : CliType) × (c : Cell) × (k ≡ Plain type) × (cell_of type ≡ Some c) × (Some (P type ∷ ts) ≡ Some us)
   address_of (Plain type) e =
@@ -386,22 +386,22 @@ module _ (p : Program) (t : Typing) (a : Accepted p t) (s : State) (f : Frame) (
       (type, c.0, refl, c.1, w.1)
   address_of (To type) e = absurd (cc e)
 
-  pub argument_address_fine : (i : ℕ) → effect p t.exception m (LoadArgumentAddress i) ts ≡ Some us → Goes p t (on_some (p.method f.method) (λ m. on_some (slice_get m.arguments i) (λ type. on_some (place_cell type) (λ cell. goes p s f fs next (Pointer cell (InArgument (frames_cells p fs) i) ∷ f.stack)))))
+  pub argument_address_fine : (i : ℕ) → effect p t.exception m (LoadArgumentAddress i) ts ≡ Some us → Goes p t (on_some (p.method f.method) (λ m. on_some (slice_get m.arguments i) (λ type. on_some (place_cell type) (λ cell. goes p s f fs next (Pointer cell (InArgument (frames_cells p (f ∷ fs)) i) ∷ f.stack)))))
   argument_address_fine i e =
       let k = some_inv (slice_get m.arguments i) _ us e in
       let d = address_of k.0 k.2 in
       some_goes p t (p.method f.method) m _ n.base.is
       (some_goes p t (slice_get m.arguments i) k.0 _ k.1
       (some_goes p t (place_cell k.0) d.1 _ (ap place_cell d.2 ∙ d.3)
-      (leads_fine p t a s f fs m n next (Pointer d.1 (InArgument (frames_cells p fs) i) ∷ f.stack) (P d.0 ∷ ts) us l d.4
-      (record { own = d.0; leads = record { id = f.method; there = own_chain f.method fs; method = m; is = n.base.is; at = k.1 ∙ ap Some d.2 }; is = d.3; fine = agree_here d.0 d.1 d.3 }, have))))
+      (leads_fine p t a s f fs m n next (Pointer d.1 (InArgument (frames_cells p (f ∷ fs)) i) ∷ f.stack) (P d.0 ∷ ts) us l d.4
+      (record { own = d.0; leads = record { id = f.method; there = own_chain f fs; method = m; is = n.base.is; at = k.1 ∙ ap Some d.2 }; is = d.3; fine = agree_here d.0 d.1 d.3 }, have))))
 
-  pub local_address_fine : (i : ℕ) → effect p t.exception m (LoadLocalAddress i) ts ≡ Some us → Goes p t (on_some (p.method f.method) (λ m. on_some (slice_get m.locals i) (λ type. on_some (place_cell type) (λ cell. goes p s f fs next (Pointer cell (InLocal (frames_cells p fs) i) ∷ f.stack)))))
+  pub local_address_fine : (i : ℕ) → effect p t.exception m (LoadLocalAddress i) ts ≡ Some us → Goes p t (on_some (p.method f.method) (λ m. on_some (slice_get m.locals i) (λ type. on_some (place_cell type) (λ cell. goes p s f fs next (Pointer cell (InLocal (frames_cells p (f ∷ fs)) i) ∷ f.stack)))))
   local_address_fine i e =
       let k = some_inv (slice_get m.locals i) _ us e in
       let d = address_of k.0 k.2 in
       some_goes p t (p.method f.method) m _ n.base.is
       (some_goes p t (slice_get m.locals i) k.0 _ k.1
       (some_goes p t (place_cell k.0) d.1 _ (ap place_cell d.2 ∙ d.3)
-      (leads_fine p t a s f fs m n next (Pointer d.1 (InLocal (frames_cells p fs) i) ∷ f.stack) (P d.0 ∷ ts) us l d.4
-      (record { own = d.0; leads = record { id = f.method; there = own_chain f.method fs; method = m; is = n.base.is; at = k.1 ∙ ap Some d.2 }; is = d.3; fine = agree_here d.0 d.1 d.3 }, have))))
+      (leads_fine p t a s f fs m n next (Pointer d.1 (InLocal (frames_cells p (f ∷ fs)) i) ∷ f.stack) (P d.0 ∷ ts) us l d.4
+      (record { own = d.0; leads = record { id = f.method; there = own_chain f fs; method = m; is = n.base.is; at = k.1 ∙ ap Some d.2 }; is = d.3; fine = agree_here d.0 d.1 d.3 }, have))))

@@ -1,13 +1,13 @@
 -- Whole runs of a typed program.
 use Rattle.std.proofs.Common.{◌≡◌, ⊎_elim, ℕ, zero, suc, Bool, true, false, List, [], ◌∷◌, map, length, Option, Some, None, refl, sym, subst}
 use Rattle.std.specs.Prelude.{if◌then◌else◌}
-use Rattle.mf_types.specs.declared.elem.Elem.TheVariants as elem
+use Rattle.plain_types.specs.declared.elem.Elem.TheVariants as elem
 use Rattle.machine.specs.Data.{Id, Basic, PlaceType, Plain, Value, Object, Thing, Elements, Nothing, Frame, State, End, Going, Returned, Threw}
 use Rattle.machine.specs.Program.{Program, Method, Initialiser, Code}
 use Rattle.machine.specs.Throw.{on_some}
-use Rattle.machine.specs.Calls.{start_frame}
+use Rattle.machine.specs.Calls.{start_frame, if_none}
 use Rattle.machine.specs.Step.{step}
-use Rattle.machine.specs.Trace.{passes, Trace, Finish, MemorySpent, StepsSpent, NoCase, NoStart, is_stuck, at_end, top_place, trace_from, strings, given_for, is_main_result, started_state, start, trace}
+use Rattle.machine.specs.Trace.{begun, passes, Trace, Finish, MemorySpent, StepsSpent, NoCase, NoStart, is_stuck, at_end, top_place, trace_from, strings, given_for, is_main_result, started_state, start, trace}
 use Rattle.machine_typed.specs.Typing.{loaded}
 use Rattle.machine_typed.specs.Accepted.{Typing, Needs, MethodFits, BodyFits, Accepted, Begins}
 use Rattle.machine_typed.proofs.Heaps.{get_either, length-replicate}
@@ -67,7 +67,8 @@ module _ (p : Program) (t : Typing) (a : Accepted p t) where
     (b.method, frame_base heap false b.id b.method vs [] b.there b.code (have (start_frame false b.id b.method vs ∷ [])), frame_slots heap false b.id b.method vs [] b.there b.code, frame_meets heap false b.id b.method vs [] b.there b.code, b.returns),
   )
   begins heap vs things have (Some i) w =
-      some_goes p t (p.method i.method) w.0 _ w.1 (
+      some_goes p t (p.method i.method) w.0 _ w.1
+      (subst (λ ks. Goes p t (if_none ks (Some (begun heap (start_frame true i.method w.0 [] ∷ main ∷ []) (i.class ∷ []))))) (sym w.2) (
         record { heap = things; statics = λ g v k e o. absurd (cc e); literals = λ us n e. absurd (cc e); going = refl },
         (
           w.0,
@@ -82,7 +83,7 @@ module _ (p : Program) (t : Typing) (a : Accepted p t) where
             b.returns,
           ),
         ),
-      )
+      ))
     where
       main : Frame
       main = start_frame false b.id b.method vs

@@ -4,7 +4,7 @@ use Rattle.std.specs.Prelude.{pos, if◌then◌else◌, nat_le, nat_lt, slice_ge
 use Rattle.std.proofs.lemmas.Bool.{eqb-true}
 use Rattle.cil_opcodes.specs.declared.shape.IntegerType.TheVariants.{I4}
 use Rattle.cil_opcodes.specs.declared.shape.Operator.TheVariants.{Divide}
-use Rattle.mf_types.specs.declared.elem.Elem.TheVariants as elem
+use Rattle.plain_types.specs.declared.elem.Elem.TheVariants as elem
 use Rattle.machine.specs.Data.{Id, id_eq, elem_number, CliType, Basic, ClassOf, ArrayOf, type_eq, PlaceType, Plain, Cell, Bits, Refers, Int}
 use Rattle.machine.specs.Program.{Program, Push, NewArray, LoadElement, Exact, StoreLocal, Binary, Leave, Pop, LoadText, Call, LoadLocal, Return, Line, Clause, Catch, Method, Code, Native, DebugPrint}
 use Rattle.machine.specs.Trace.{is_stuck, trace}
@@ -83,6 +83,7 @@ program =
       known = λ k. Some (id 1);
       basic = λ e. Some (id 2);
       array = Some (id 3);
+      exception = Some (id 1);
       name = λ c. [];
     }
 
@@ -242,11 +243,12 @@ accepted =
       strings_made = refl;
       texts = λ own made e. type_same own text e;
       arrays = array_fits;
-      exceptions = λ own made e. (id 1, type_same own exception e);
+      exceptions = λ own made e. (id 1, type_same own exception e, (id 1, refl, refl));
       fields = λ c ks n k e h. absurd (let z : None ≡ Some k = subst (λ z. slice_get z n ≡ Some k) (sym (some_same [] ks e)) h in cc z);
       inherits = λ c d ks js n k sub e g h. absurd (let z : None ≡ Some k = subst (λ z. slice_get z n ≡ Some k) (sym (some_same [] ks e)) h in cc z);
       known = λ k. record { class = id 1; types = []; is = refl; fields = refl; made = refl };
       basics = λ e h. (id 2, refl);
+      array_class = (id 3, refl);
       methods = method_fits;
       begins = record { id = id 0; is = refl; method = main; there = refl; arguments = inl refl; code = refl; returns = refl; first = tt };
     }

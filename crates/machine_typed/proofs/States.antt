@@ -2,7 +2,7 @@
 use Rattle.std.proofs.Common.{◌≡◌, ◌≢◌, ◌⊎◌, ⊎_elim, ℕ, ◌≤◌, Bool, true, false, List, [], ◌∷◌, ◌++◌, map, length, Option, Some, None, refl, sym, ap, ◌∙◌, subst}
 use Rattle.std.specs.Prelude.{if◌then◌else◌, nat_le, slice_get}
 use Rattle.std.proofs.lemmas.Bool.{le-leb}
-use Rattle.mf_types.specs.declared.elem.Elem.TheVariants as elem
+use Rattle.plain_types.specs.declared.elem.Elem.TheVariants as elem
 use Rattle.machine.specs.Data.{Id, CliType, Basic, ClassOf, ArrayOf, thing_at, put_thing, type_of, Value, PlaceType, Thing, Instance, Text, Elements, Boxed, StaticCell, Turn, Finally, EndFrame, Slot, Caught, Throwing, Leaving, Frame, Literal, Static, State, End, Going, Returned, Threw}
 use Rattle.machine.specs.Program.{Program, Method, Clause, Catch, Final, Line, Code}
 use Rattle.machine.specs.Throw.{on_some, goes}

@@ -1,14 +1,14 @@
 -- What rows are made of, on typed stacks.
-use Rattle.std.proofs.Common.{◌≡◌, ℕ, ◌+◌, ◌<◌, ◌≤◌, Bool, true, false, ◌==◌, List, [], ◌∷◌, ◌++◌, map, length, Option, Some, None, refl, sym, subst, arith}
-use Rattle.std.specs.Prelude.{if◌then◌else◌, nat_le}
-use Rattle.std.proofs.lemmas.Bool.{le-leb, eqb-true, ne_eqb}
-use Rattle.mf_types.specs.declared.board.Known.{Known}
+use Rattle.std.proofs.Common.{◌≡◌, ℕ, suc, ◌≤◌, Bool, true, false, ◌==◌, List, [], ◌∷◌, ◌++◌, map, length, Option, Some, None, refl, sym, subst, arith}
+use Rattle.std.specs.Prelude.{if◌then◌else◌, nat_le, nat_lt}
+use Rattle.std.proofs.lemmas.Bool.{le-leb, lt-ltb, eqb-true, ne_eqb}
+use Rattle.board_types.specs.declared.board.Known.{Known}
 use Rattle.machine.specs.Data.{Id, CliType, thing_at, end_of, type_of, Value, Int, Long, Null, Object, Handle, Pointer, PlaceType, Thing, Nothing, Frame, State}
 use Rattle.machine.specs.Program.{Program, Line, Method, Code}
 use Rattle.machine.specs.Numbers.{Answer, Gives, Raises, NoCase}
 use Rattle.machine.specs.Throw.{on_some, goes}
-use Rattle.machine.specs.Rows.{on_top, answered, or_raise, on_thing_or, method_cells}
-use Rattle.machine.specs.Calls.{start_frame, starts}
+use Rattle.machine.specs.Rows.{on_top, answered, or_raise, on_thing_or}
+use Rattle.machine.specs.Calls.{if_room, start_frame, starts}
 use Rattle.machine_typed.specs.Typing.{StackType, O, Nil, loaded, when, assignable, all_assignable, with_type, is_reference}
 use Rattle.machine_typed.specs.Accepted.{Typing, Leads, MethodFits, BodyFits, Accepted}
 use Rattle.machine_typed.proofs.Heaps.{Extends, same_heap, length-replicate, some_same, and_left, and_right, get_seam}
@@ -28,6 +28,15 @@ top_inv (x ∷ rest) k b e = (x, rest, refl, e)
 le_test : (m n : ℕ) → m ≤ n → nat_le m n ≡ true
 le_test m n h = le-leb m n h
 
+-- how many values lie on a frame's stack when a call has ended
+abbrev pub height : Option PlaceType → List Value → ℕ
+height None stack = length stack
+height (Some k) stack = suc (length stack)
+
+height_up : (r : Option PlaceType) (stack : List Value) → length stack ≤ height r stack
+height_up None stack = omega arith
+height_up (Some k) stack = omega arith
+
 module _ (p : Program) (t : Typing) where
   pub test_goes : (b : Bool) (o : Option State) → b ≡ true → Goes p t o → Goes p t (if b then o else None)
   test_goes true o e h = h
@@ -45,12 +54,12 @@ module _ (p : Program) (t : Typing) where
   top_goes cx (v ∷ vs) (u ∷ ts) kt kv us h e g = g v vs u ts h.0 h.1 e
 
   -- a frame more changes nothing of what is seen
-  pub within_chain : (is : List Id) (d : ℕ) (x : Id) → id_at p is d ≡ Some x → d < chain_cells p is
+  pub within_chain : (is : List Id) (d : ℕ) (x : Id) → id_at p is d ≡ Some x → d ≤ chain_cells p is
   within_chain [] d x e = absurd (cc e)
-  within_chain (i ∷ is) d x e = at (chain_cells p is == d) refl e (within_chain is d x)
+  within_chain (i ∷ is) d x e = at (chain_cells p (i ∷ is) == d) refl e (within_chain is d x)
     where
-      at : (b : Bool) → (chain_cells p is == d) ≡ b → (if b then Some i else id_at p is d) ≡ Some x → (id_at p is d ≡ Some x → d < chain_cells p is) → d < method_cells (p.method i) + chain_cells p is
-      at true y e ih = omega (arith, eqb-true (chain_cells p is) d y, cells_positive (p.method i))
+      at : (b : Bool) → (chain_cells p (i ∷ is) == d) ≡ b → (if b then Some i else id_at p is d) ≡ Some x → (id_at p is d ≡ Some x → d ≤ chain_cells p is) → d ≤ chain_cells p (i ∷ is)
+      at true y e ih = let same : chain_cells p (i ∷ is) ≡ d = eqb-true (chain_cells p (i ∷ is)) d y in subst (λ n. n ≤ chain_cells p (i ∷ is)) same (omega arith)
       at false y e ih = omega (arith, ih e)
 
   pushed : (heap : List Thing) (g : Frame) (fs : List Frame) → Reaches p (over heap fs) (over heap (g ∷ fs))
@@ -59,8 +68,9 @@ module _ (p : Program) (t : Typing) where
         heap = same_heap heap;
         chain = λ d id e.
             let is : List Id = map (λ (f : Frame). f.method) fs in
-            let lt = within_chain is d id e in
-            let no : (chain_cells p is == d) ≡ false = ne_eqb (chain_cells p is) d (λ x. omega arith) in
+            let le = within_chain is d id e in
+            let one = cells_positive (p.method g.method) in
+            let no : (chain_cells p (g.method ∷ is) == d) ≡ false = ne_eqb (chain_cells p (g.method ∷ is)) d (λ x. omega (arith, le, one, x)) in
             subst (λ (b : Bool). (if b then Some g.method else id_at p is d) ≡ Some id) (sym no) e;
       }
 
@@ -75,11 +85,18 @@ module _ (p : Program) (t : Typing) where
   have_over old new fs x vs ts h = have_more p (over old fs) (over new fs) (reach p t old new x fs) vs ts h
 
   module _ (a : Accepted p t) (s : State) (f : Frame) (fs : List Frame) (m : Method) (n : Now p t s f fs m) where
+    room_goes : (stack : List Value) (r : Option PlaceType) (o : Option State) → height r stack ≤ m.max_stack → Goes p t o → Goes p t (if_room p f stack r o)
+    room_goes stack None o e h = h
+    room_goes stack (Some k) o e h =
+        some_goes p t (p.method f.method) m _ n.base.is (test_goes (nat_lt (length stack) m.max_stack) o (lt-ltb (length stack) m.max_stack e) h)
+
     -- a frame of a method starts over a frame that waits
-    pub starts_fine : (stack : List Value) (id : Id) (c : Method) (arguments : List Value) → p.method id ≡ Some c → c.body ≡ Code → HaveAll p (over s.heap (f ∷ fs)) arguments (map loaded c.arguments) → length stack ≤ m.max_stack → Resumes p t s.heap c.returns (record f { stack = stack }) fs → Goes p t (starts p s f fs stack id c arguments)
+    pub starts_fine : (stack : List Value) (id : Id) (c : Method) (arguments : List Value) → p.method id ≡ Some c → c.body ≡ Code → HaveAll p (over s.heap (f ∷ fs)) arguments (map loaded c.arguments) → height c.returns stack ≤ m.max_stack → Resumes p t s.heap c.returns (record f { stack = stack }) fs → Goes p t (starts p s f fs stack id c arguments)
     unfolding starts goes
-    starts_fine stack id c arguments is code have room waits =
-        subst (λ o. Goes p t (on_some (on_some o (λ m. if nat_le (length stack) m.max_stack then Some (record s { frames = record f { place = f.place; stack = stack } ∷ fs }) else None)) (λ z. Some (record z { frames = start_frame false id c arguments ∷ z.frames })))) (sym n.base.is)
+    starts_fine stack id c arguments is code have high waits =
+        let room : length stack ≤ m.max_stack = let below = height_up c.returns stack in omega (arith, high, below) in
+        room_goes stack c.returns _ high
+        (subst (λ o. Goes p t (on_some (on_some o (λ m. if nat_le (length stack) m.max_stack then Some (record s { frames = record f { place = f.place; stack = stack } ∷ fs }) else None)) (λ z. Some (record z { frames = start_frame false id c arguments ∷ z.frames })))) (sym n.base.is)
         (subst (λ (b : Bool). Goes p t (on_some (if b then Some (record s { frames = record f { place = f.place; stack = stack } ∷ fs }) else None) (λ z. Some (record z { frames = start_frame false id c arguments ∷ z.frames })))) (sym (le_test (length stack) m.max_stack room))
         (subst (FineAt p t (record s { frames = start_frame false id c arguments ∷ record f { stack = stack } ∷ fs })) (sym n.stored.going) (
           record { heap = n.stored.heap; statics = n.stored.statics; literals = n.stored.literals; going = n.stored.going },
@@ -96,7 +113,7 @@ module _ (p : Program) (t : Typing) where
               n.callers,
             ),
           ),
-        )))
+        ))))
       where
         callee : MethodFits p t id c
         callee = subst (λ b. BodyFits p t id c b) code (a.methods id c is)
@@ -134,7 +151,7 @@ module _ (p : Program) (t : Typing) where
     reference_goes known fr v _ h e k g = absurd (cc e)
 
     -- the types behind a call, without its result
-    below_types : (r : Option PlaceType) (rest : List Value) (types at : List StackType) → all_assignable p (with_type r types) at ≡ true → HaveAll p (over s.heap (f ∷ fs)) rest types → length at ≤ m.max_stack → (length rest ≤ m.max_stack) × Below p t (over s.heap (f ∷ fs)) r rest at
+    below_types : (r : Option PlaceType) (rest : List Value) (types at : List StackType) → all_assignable p (with_type r types) at ≡ true → HaveAll p (over s.heap (f ∷ fs)) rest types → length at ≤ m.max_stack → (height r rest ≤ m.max_stack) × Below p t (over s.heap (f ∷ fs)) r rest at
     below_types None rest types at e have le =
         let h = have_fits p a.up (over s.heap (f ∷ fs)) rest types at have e in
         let same = length_have p (over s.heap (f ∷ fs)) rest at h in
@@ -145,7 +162,7 @@ module _ (p : Program) (t : Typing) where
         let same = length_have p (over s.heap (f ∷ fs)) rest at h in
         (omega arith, (and_left (assignable p (loaded k) u) (all_assignable p types at) e, h))
 
-    pub below_call : (line : Line) (c : Method) (rest : List Value) (types us : List StackType) → p.fetch f.method f.place ≡ Some line → Leads p t f.method f.place us line.next → Some (with_type c.returns types) ≡ Some us → HaveAll p (over s.heap (f ∷ fs)) rest types → (length rest ≤ m.max_stack) × Resumes p t s.heap c.returns (record f { stack = rest }) fs
+    pub below_call : (line : Line) (c : Method) (rest : List Value) (types us : List StackType) → p.fetch f.method f.place ≡ Some line → Leads p t f.method f.place us line.next → Some (with_type c.returns types) ≡ Some us → HaveAll p (over s.heap (f ∷ fs)) rest types → (height c.returns rest ≤ m.max_stack) × Resumes p t s.heap c.returns (record f { stack = rest }) fs
     below_call line c rest types us is l e have =
         let h = below_types c.returns rest types l.at (subst (λ z. all_assignable p z l.at ≡ true) (sym (some_same (with_type c.returns types) us e)) l.fitting) have ((method_fits p t a s.heap f fs m n.base).within line.next l.at l.typed) in
         (h.0, record { line = line; is = is; types = l.at; typed = l.typed; below = h.1; stays = l.stays })

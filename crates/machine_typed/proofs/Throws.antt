@@ -3,14 +3,14 @@ use Rattle.std.proofs.Common.{◌≡◌, ◌⊎◌, inl, inr, ⊎_elim, ℕ, suc
 use Rattle.std.specs.Prelude.{if◌then◌else◌, slice_get, slice_set}
 use Rattle.std.proofs.Math.ListN.{length-set}
 use Rattle.std.proofs.lemmas.Option.{slice_get_within}
-use Rattle.mf_types.specs.declared.board.Known.{Known}
-use Rattle.mf_types.specs.declared.board.Known.TheVariants.{NullReference}
+use Rattle.board_types.specs.declared.board.Known.{Known}
+use Rattle.board_types.specs.declared.board.Known.TheVariants.{NullReference}
 use Rattle.machine.specs.Data.{Id, CliType, ClassOf, thing_at, end_of, type_of, Value, Int, Long, Null, Object, Handle, Pointer, Thing, Instance, Text, Elements, Boxed, StaticCell, Turn, Finally, EndFrame, Slot, Caught, Throwing, Leaving, Frame, State}
 use Rattle.machine.specs.Program.{Program, Method, Clause, ClauseKind, Catch, Final}
 use Rattle.machine.specs.Numbers.{zero_of}
-use Rattle.machine.specs.Throw.{on_some, Scan, scanned, scan, Route as Way, route_of, search_frames, enter_clause, follow, taken, throw, raise, is_final, left, leave, take_up, throw_thing, throw_value, throw_again}
+use Rattle.machine.specs.Throw.{on_some, Scan, scanned, scan, Route as Way, route_of, search_frames, enter_clause, follow, taken, throw, raise, is_final, left, leave, take_up, throw_thing, throw_value, throw_again, throw_exception}
 use Rattle.machine_typed.specs.Typing.{StackType, O, is_number}
-use Rattle.machine_typed.specs.Accepted.{Typing, Leaves, Regions, Starts, Accepted}
+use Rattle.machine_typed.specs.Accepted.{Typing, Leaves, Regions, Starts, Accepted, IsThrown}
 use Rattle.machine_typed.proofs.Heaps.{OfClass, mould_of, mould_at, mould_there, same_or_not, some_same, some_inv, and_left, and_right, get_set_same, get_set_other, get_seam}
 use Rattle.machine_typed.proofs.Values.{Context, type_of_mould, Names, HasType, HaveAll, zeros_have}
 use Rattle.machine_typed.proofs.States.{over, clause_at, Thrown, ThingFits, Things, there_at, Enters, Around, Route, Exit, IsCaught, IsPlan, SlotFits, Base, Callers, Stored, Goes, some_goes, Now, method_fits, goes_fine, now_grown}
@@ -269,22 +269,30 @@ module _ (p : Program) (t : Typing) (a : Accepted p t) where
       let y = instance_at s.heap object class count named in
       some_goes p t (thing_at s.heap object) (Instance class y.0) _ y.1 (throw_fine s f fs m n fr class object count named)
 
+  throw_exception_fine : (s : State) (f : Frame) (fs : List Frame) (m : Method) → Now p t s f fs m → s.frames ≡ f ∷ fs → (object : ℕ) (class : Id) (count : ℕ) → mould_at s.heap object ≡ Some (OfClass class count) → IsThrown p t class → Goes p t (throw_exception p s object)
+  unfolding throw_exception
+  throw_exception_fine s f fs m n fr object class count named w =
+      let y = instance_at s.heap object class count named in
+      some_goes p t (thing_at s.heap object) (Instance class y.0) _ y.1
+      (some_goes p t p.exception w.0 _ w.1
+      (subst (λ (q : Bool). Goes p t (if q then throw p s class object else None)) (sym w.2) (throw_fine s f fs m n fr class object count named)))
+
   -- an object of an exception's class is an instance
-  exception_mould : (heap : List Thing) (things : Things p t heap) (n : ℕ) → Names p heap n t.exception → (c : Id) × (count : ℕ) × (mould_at heap n ≡ Some (OfClass c count))
+  exception_mould : (heap : List Thing) (things : Things p t heap) (n : ℕ) → Names p heap n t.exception → (c : Id) × (count : ℕ) × (mould_at heap n ≡ Some (OfClass c count)) × IsThrown p t c
   exception_mould heap things n h =
       let x = there_at p t a heap things n h.own h.at in
       let c = a.exceptions h.own x.made h.below in
-      at x.thing x.at x.fits c.0 (x.type ∙ ap Some c.1)
+      at x.thing x.at x.fits c.0 (x.type ∙ ap Some c.1) c.2
     where
-      at : (x : Thing) → thing_at heap n ≡ Some x → ThingFits p t (over heap []) x → (c : Id) → type_of x ≡ Some (ClassOf c) → (c : Id) × (count : ℕ) × (mould_at heap n ≡ Some (OfClass c count))
-      at (Instance d vs) e fits c k = (d, length vs, mould_there heap n (Instance d vs) e)
-      at (Text units) e fits c k = absurd (cc k)
-      at (Elements element vs) e fits c k = absurd (cc k)
-      at (Boxed type v) e fits c k = let no : is_number (ClassOf c) ≡ true = subst (λ z. is_number z ≡ true) (some_same type (ClassOf c) k) fits.1 in absurd (cc no)
-      at (StaticCell type v) e fits c k = absurd (cc k)
+      at : (x : Thing) → thing_at heap n ≡ Some x → ThingFits p t (over heap []) x → (c : Id) → type_of x ≡ Some (ClassOf c) → IsThrown p t c → (c : Id) × (count : ℕ) × (mould_at heap n ≡ Some (OfClass c count)) × IsThrown p t c
+      at (Instance d vs) e fits c k w = let same : d ≡ c = cc k in (d, length vs, mould_there heap n (Instance d vs) e, subst (IsThrown p t) (sym same) w)
+      at (Text units) e fits c k w = absurd (cc k)
+      at (Elements element vs) e fits c k w = absurd (cc k)
+      at (Boxed type v) e fits c k w = let no : is_number (ClassOf c) ≡ true = subst (λ z. is_number z ≡ true) (some_same type (ClassOf c) k) fits.1 in absurd (cc no)
+      at (StaticCell type v) e fits c k w = absurd (cc k)
 
   pub throw_value_fine : (s : State) (f : Frame) (fs : List Frame) (m : Method) → Now p t s f fs m → s.frames ≡ f ∷ fs → (v : Value) → HasType p (over s.heap (f ∷ fs)) v (O t.exception) → Goes p t (throw_value p s v)
-  throw_value_fine s f fs m n fr (Object k) h = let x = exception_mould s.heap n.stored.heap k h in throw_thing_fine s f fs m n fr k x.0 x.1 x.2
+  throw_value_fine s f fs m n fr (Object k) h = let x = exception_mould s.heap n.stored.heap k h in throw_exception_fine s f fs m n fr k x.0 x.1 x.2 x.3
   throw_value_fine s f fs m n fr Null h = raise_fine s f fs m n fr NullReference
   throw_value_fine s f fs m n fr (Int k) h = absurd h
   throw_value_fine s f fs m n fr (Long k) h = absurd h

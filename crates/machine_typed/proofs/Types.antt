@@ -5,8 +5,8 @@ use Rattle.std.specs.Option.{option_map}
 use Rattle.std.proofs.lemmas.Bool.{eqb-true, eq-eqb}
 use Rattle.cil_opcodes.specs.declared.shape.IntegerType.{IntegerType}
 use Rattle.cil_opcodes.specs.declared.shape.IntegerType.TheVariants.{I1, U1, I2, U2, I4, U4, I8, U8}
-use Rattle.mf_types.specs.declared.elem.Elem.{Elem}
-use Rattle.mf_types.specs.declared.elem.Elem.TheVariants as elem
+use Rattle.plain_types.specs.declared.elem.Elem.{Elem}
+use Rattle.plain_types.specs.declared.elem.Elem.TheVariants as elem
 use Rattle.machine.specs.Data.{Id, id_eq, CliType, Basic, EnumOf, ClassOf, ValueOf, ArrayOf, Cell, Bits, Refers, cell_of, elem_cell, elem_number, type_eq, bytes_of}
 use Rattle.machine.specs.Program.{Program}
 use Rattle.machine.specs.Numbers.{is_long, same_width, Holds, kind_of_type}
@@ -150,19 +150,20 @@ refers_cell (Some Refers) e = refl
 
 pub data Agreeing (a b : CliType) : Type 0 where
   TwoNumbers : (i j : IntegerType) → cell_of a ≡ Some (Bits i) → cell_of b ≡ Some (Bits j) → same_width (Bits i) (Bits j) ≡ true → Agreeing a b
-  OneReference : cell_of a ≡ Some Refers → a ≡ b → Agreeing a b
+  OneType : a ≡ b → Agreeing a b
 
 pub agreeing : (a b : CliType) → agrees a b ≡ true → Agreeing a b
 agreeing a b e = at (cell_of a) refl (cell_of b) refl e
   where
     at : (x : Option Cell) → cell_of a ≡ x → (y : Option Cell) → cell_of b ≡ y → agree_by x y (type_eq a b) ≡ true → Agreeing a b
     at (Some (Bits i)) ex (Some (Bits j)) ey h = TwoNumbers i j ex ey h
-    at (Some Refers) ex (Some Refers) ey h = OneReference ex (type_same a b h)
+    at (Some Refers) ex (Some Refers) ey h = OneType (type_same a b h)
     at (Some (Bits i)) ex (Some Refers) ey h = absurd (cc h)
     at (Some (Bits i)) ex None ey h = absurd (cc h)
     at (Some Refers) ex (Some (Bits j)) ey h = absurd (cc h)
     at (Some Refers) ex None ey h = absurd (cc h)
-    at None ex _ ey h = absurd (cc h)
+    at None ex None ey h = OneType (type_same a b h)
+    at None ex (Some c) ey h = absurd (cc h)
 
 by_here : (c : Cell) (same : Bool) → same ≡ true → agree_by (Some c) (Some c) same ≡ true
 by_here (Bits i) same e = width_here (Bits i)
@@ -177,14 +178,14 @@ agree_same a b e = by (agreeing a b e)
   where
     by : Agreeing a b → of_type a ≡ of_type b
     by (TwoNumbers i j x y w) = type_held a (Bits i) x ∙ ap number (long_width i j w) ∙ sym (type_held b (Bits j) y)
-    by (OneReference x same) = ap of_type same
+    by (OneType same) = ap of_type same
 
 pub agree_cell : (a b : CliType) (c : Cell) → agrees a b ≡ true → cell_of a ≡ Some c → (d : Cell) × (cell_of b ≡ Some d) × (same_width c d ≡ true)
 agree_cell a b c e h = by (agreeing a b e)
   where
     by : Agreeing a b → (d : Cell) × (cell_of b ≡ Some d) × (same_width c d ≡ true)
     by (TwoNumbers i j x y w) = (Bits j, y, subst (λ z. same_width z (Bits j) ≡ true) (some_same (Bits i) c (sym x ∙ h)) w)
-    by (OneReference x same) = (c, ap cell_of (sym same) ∙ h, width_here c)
+    by (OneType same) = (c, ap cell_of (sym same) ∙ h, width_here c)
 
 pub agree_numbers : (a b : CliType) (i j : IntegerType) → cell_of a ≡ Some (Bits i) → cell_of b ≡ Some (Bits j) → same_width (Bits i) (Bits j) ≡ true → agrees a b ≡ true
 agree_numbers a b i j x y w = ap (λ o. agree_by o (cell_of b) (type_eq a b)) x ∙ ap (λ o. agree_by (Some (Bits i)) o (type_eq a b)) y ∙ w
@@ -193,8 +194,8 @@ pub agree_up : (a b c : CliType) → agrees a b ≡ true → agrees b c ≡ true
 agree_up a b c e h = by (agreeing a b e) (agreeing b c h)
   where
     by : Agreeing a b → Agreeing b c → agrees a c ≡ true
-    by (OneReference x same) g = subst (λ z. agrees z c ≡ true) (sym same) h
-    by (TwoNumbers i j x y w) (OneReference z same) = subst (λ z. agrees a z ≡ true) same e
+    by (OneType same) g = subst (λ z. agrees z c ≡ true) (sym same) h
+    by (TwoNumbers i j x y w) (OneType same) = subst (λ z. agrees a z ≡ true) same e
     by (TwoNumbers i j x y w) (TwoNumbers k l z u v) =
         let v' = subst (λ c. same_width c (Bits l) ≡ true) (some_same (Bits k) (Bits j) (sym z ∙ y)) v in
         agree_numbers a c i l x u (width_up (Bits i) (Bits j) (Bits l) w v')

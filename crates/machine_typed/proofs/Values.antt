@@ -4,7 +4,7 @@ use Rattle.std.specs.Prelude.{if◌then◌else◌, nat_lt, slice_get, slice_set,
 use Rattle.std.specs.Option.{option_map}
 use Rattle.cil_opcodes.specs.declared.shape.IntegerType.{IntegerType}
 use Rattle.cil_opcodes.specs.declared.shape.IntegerType.TheVariants.{I1, U1, I2, U2, I4, U4, I8, U8}
-use Rattle.mf_types.specs.declared.elem.Elem.TheVariants as elem
+use Rattle.plain_types.specs.declared.elem.Elem.TheVariants as elem
 use Rattle.machine.specs.Data.{Id, CliType, Basic, ClassOf, ArrayOf, PlaceType, Plain, To, Cell, Bits, Refers, cell_of, Spot, InArgument, InLocal, InObject, Value, Int, Long, Null, Object, Handle, Pointer, Thing, Frame}
 use Rattle.machine.specs.Program.{Program, Method}
 use Rattle.machine.specs.Numbers.{is_long, same_width, PlaceKind, Holds, HoldsPointer, HoldsHandle, kind_of_type, kept, kept_in, kept_by, zero_in, zero_of, zero_place}
@@ -24,7 +24,7 @@ chain_cells p is = total (λ i. method_cells (p.method i)) is
 
 abbrev pub id_at : Program → List Id → ℕ → Option Id
 id_at p [] depth = None
-id_at p (i ∷ is) depth = if chain_cells p is == depth then Some i else id_at p is depth
+id_at p (i ∷ is) depth = if chain_cells p (i ∷ is) == depth then Some i else id_at p is depth
 
 pub chain_law : (p : Program) (fs : List Frame) → chain_cells p (map (λ (f : Frame). f.method) fs) ≡ frames_cells p fs
 chain_law p [] = refl

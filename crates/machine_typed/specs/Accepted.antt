@@ -1,9 +1,9 @@
 -- When a program is typed: one list of stack types at each instruction start, and a condition on each edge (III.1.8).
 -- The refusal rules by which a verifier knows each fact stand beside it.
 use Rattle.std.specs.Prelude.{◌≡◌, ◌≢◌, ◌⊎◌, ℕ, ◌<◌, ◌≤◌, Bool, true, false, List, [], ◌∷◌, length, Option, Some, None, slice_get, is_some}
-use Rattle.mf_types.specs.declared.board.Known.{Known}
-use Rattle.mf_types.specs.declared.elem.Elem.{Elem}
-use Rattle.mf_types.specs.declared.elem.Elem.TheVariants as elem
+use Rattle.board_types.specs.declared.board.Known.{Known}
+use Rattle.plain_types.specs.declared.elem.Elem.{Elem}
+use Rattle.plain_types.specs.declared.elem.Elem.TheVariants as elem
 use Rattle.machine.specs.Data.{Id, CliType, Basic, EnumOf, ClassOf, ValueOf, ArrayOf, PlaceType, Plain, To, Cell, Bits, Refers, cell_of, elem_cell}
 use Rattle.machine.specs.Program.{Program, Method, Body, Code, Native, Missing, Instruction, Branch, BranchIf, BranchCompare, Switch, CallVirtual, NewObject, NewArray, Box, LoadField, StoreField, LoadFieldAddress, Throw, Rethrow, Leave, EndFinally, Return, Initialiser, Line, ClauseKind, Catch, Final, Clause, NativeName, ObjectToString, EnumEquals, EnumToString, ArrayLength, ArrayCopy, StringLength, StringChars, StringConcat, StringSubstring, StringEquals, StringCompare, StringFromChars, StringFromChar, NumberSigned, NumberUnsigned, InitializeArray, DebugPrint}
 use Rattle.machine.specs.Numbers.{same_width}
@@ -81,7 +81,7 @@ module _ (p : Program) (t : Typing) where
     pub returns : method.returns ≡ m.returns
     pub with_body : has_body method.body ≡ true
 
-  -- an instance method of a class or an interface has a body at each object that may be its `this` (31, 46)
+  -- an instance method of a class or an interface has a body at each object that may be its `this` (29, 31, 46)
   abbrev pub Dispatches : Id → Type 0
   Dispatches id = (m : Method) (d : CliType) (others : List PlaceType) (own : CliType) → p.method id ≡ Some m → m.arguments ≡ Plain d ∷ others → cell_of d ≡ Some Refers → t.made own ≡ true → p.fits own d ≡ true → Finds own id m others
 
@@ -119,7 +119,7 @@ module _ (p : Program) (t : Typing) where
   -- how the regions of a method lie to one another (44)
   pub record Regions (id : Id) (m : Method) : Type 0 where
     pub starts : (j : ℕ) (c : Clause) → slice_get m.clauses j ≡ Some c → Starts id c.kind c.start
-    -- a handler that holds the start of another one holds all of it
+    -- a handler that holds the start of another one holds all of it, since no two handlers begin at one place (44, 45)
     pub inside : (i j place : ℕ) (c : Clause) → slice_get m.clauses j ≡ Some c → t.handled id j place ≡ true → t.handled id i c.start ≡ true → t.handled id i place ≡ true
     -- and it holds that one's try
     pub out : (i j place : ℕ) (c : Clause) → slice_get m.clauses j ≡ Some c → p.try_holds id j place ≡ true → t.handled id i c.start ≡ true → (i ≡ j) ⊎ (t.handled id i place ≡ true)
@@ -205,6 +205,10 @@ module _ (p : Program) (t : Typing) where
     pub returns : is_main_result method.returns ≡ true
     pub first : Needs p.first
 
+  -- System.Exception, or a class below it
+  abbrev pub IsThrown : Id → Type 0
+  IsThrown c = (top : Id) × (p.exception ≡ Some top) × (p.is_sub c top ≡ true)
+
   -- an exception that the machine makes (30)
   pub record Makes (k : Known) : Type 0 where
     pub class : Id
@@ -225,12 +229,13 @@ module _ (p : Program) (t : Typing) where
     -- to an array type: arrays alone, by their elements (24)
     pub arrays : (own a : CliType) → t.made own ≡ true → p.fits own (ArrayOf a) ≡ true → (b : CliType) × (own ≡ ArrayOf b) × (elements_fit p b a ≡ true)
     -- to System.Exception: instances alone (24)
-    pub exceptions : (own : CliType) → t.made own ≡ true → p.fits own t.exception ≡ true → (c : Id) × (own ≡ ClassOf c)
+    pub exceptions : (own : CliType) → t.made own ≡ true → p.fits own t.exception ≡ true → (c : Id) × (own ≡ ClassOf c) × IsThrown c
     -- instance fields: inherited ones first, each a primitive, an enum or a reference (24, 27)
     pub fields : (c : Id) (ks : List CliType) (n : ℕ) (k : CliType) → p.fields c ≡ Some ks → slice_get ks n ≡ Some k → is_plain k ≡ true
     pub inherits : (c d : Id) (ks js : List CliType) (n : ℕ) (k : CliType) → p.is_sub c d ≡ true → p.fields d ≡ Some ks → p.fields c ≡ Some js → slice_get ks n ≡ Some k → slice_get js n ≡ Some k
     -- the base library's types (30)
     pub known : (k : Known) → Makes k
     pub basics : (e : Elem) → is_some (elem_cell e) ≡ true → (c : Id) × (p.basic e ≡ Some c)
+    pub array_class : (c : Id) × (p.array ≡ Some c)
     pub methods : (id : Id) (m : Method) → p.method id ≡ Some m → BodyFits id m m.body
     pub begins : Begins

@@ -3,7 +3,7 @@ use Rattle.std.specs.Prelude.{Bool, true, false, ◌&&◌, List, [], ◌∷◌, 
 use Rattle.std.specs.Option.{option_map}
 use Rattle.cil_opcodes.specs.declared.shape.Comparison.{Comparison}
 use Rattle.cil_opcodes.specs.declared.shape.Comparison.TheVariants.{Equal, Greater, GreaterUnsigned, Less, LessUnsigned}
-use Rattle.mf_types.specs.declared.elem.Elem.TheVariants as elem
+use Rattle.plain_types.specs.declared.elem.Elem.TheVariants as elem
 use Rattle.machine.specs.Data.{CliType, Basic, EnumOf, ClassOf, ValueOf, ArrayOf, PlaceType, Plain, To, Cell, Bits, Refers, cell_of, elem_cell, type_eq, Value, Int, Long, Null, Object, Handle, Pointer}
 use Rattle.machine.specs.Program.{Program, Access, Exact, Typed, Method, Body, Code, Native, Missing, Instruction, Nop, Push, Dup, Pop, LoadArgument, StoreArgument, LoadArgumentAddress, LoadLocal, StoreLocal, LoadLocalAddress, Binary, Shift, Unary, Compare, Convert, ConvertChecked, Branch, BranchIf, BranchCompare, Switch, Call, CallVirtual, NewObject, Return, LoadField, StoreField, LoadFieldAddress, LoadStatic, StoreStatic, LoadStaticAddress, LoadText, LoadIndirect, StoreIndirect, NewArray, LoadLength, LoadElement, StoreElement, LoadElementAddress, CastClass, IsInstance, Box, Unbox, UnboxAny, Throw, Rethrow, Leave, EndFinally}
 use Rattle.machine.specs.Numbers.{is_long, same_width, PlaceKind, Holds, HoldsPointer, HoldsHandle, kind_of_type}
@@ -84,6 +84,7 @@ has_width type wide = width_is (cell_of type) wide
 abbrev pub agree_by : Option Cell → Option Cell → Bool → Bool
 agree_by (Some (Bits a)) (Some (Bits b)) same = same_width (Bits a) (Bits b)
 agree_by (Some Refers) (Some Refers) same = same
+agree_by None None same = same
 agree_by _ _ same = false
 
 -- whether types agree: numbers by their width, references where they are equal

@@ -1,8 +1,8 @@
 -- What is printed at each outcome, and its status.
 use Rattle.std.specs.Prelude.{ℕ, codes, List, [], ◌∷◌, ◌++◌}
 use Rattle.std.specs.Fmt.{decimal, signed_decimal}
-use Rattle.mf_types.specs.declared.fault.Place.{Place}
-use Rattle.mf_types.specs.declared.fault.Fault.{Fault}
+use Rattle.plain_types.specs.declared.fault.Place.{Place}
+use Rattle.plain_types.specs.declared.fault.Fault.{Fault}
 use Rattle.mf_front.specs.declared.outcome.End.{End}
 use Rattle.mf_front.specs.declared.outcome.End.TheVariants.{Returned, StepsSpent}
 use Rattle.mf_front.specs.declared.outcome.Outcome.{Outcome}

@@ -1,7 +1,7 @@
 -- The jobs that words spell.
 use Rattle.std.specs.Prelude.{ℕ, Bool, not, ◌==◌, ◌&&◌, nat_le, codes, if◌then◌else◌, List, [], ◌∷◌, length, slice_index, Option, None, option_map}
 use Rattle.std.specs.Str.{bytes_eq}
-use Rattle.mf_types.specs.Numerals.{number_up_to}
+use Rattle.numerals.specs.Numerals.{number_up_to}
 use Rattle.mf_front.specs.declared.jobs.Job.{Job}
 use Rattle.mf_front.specs.declared.jobs.Job.TheVariants.{Run1}
 

@@ -10,7 +10,7 @@ use cil_build::build::{Build, BuildRefusal};
 use cil_build::refs::RefRow;
 use cil_build::write::{push_bytes, push_four};
 use cil_layout::rows::{METHOD_DEF, TYPE_DEF};
-use mf_types::fault::NoMemory;
+use plain_types::fault::NoMemory;
 use std::alloc::Global;
 
 /// The version of the base library.

@@ -1,7 +1,7 @@
 //! The jobs of the program.
 
-use mf_types::fault::NoMemory;
-use mf_types::list::Text;
+use plain_types::fault::NoMemory;
+use plain_types::list::Text;
 
 /// What the program is asked to do.
 #[derive(Debug, Drop)]

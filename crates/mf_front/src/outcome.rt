@@ -1,7 +1,7 @@
 //! What a call comes to.
 
-use mf_types::fault::Fault;
-use mf_types::list::Text;
+use plain_types::fault::Fault;
+use plain_types::list::Text;
 
 /// How a run ended.
 #[derive(Clone, Copy, Debug, PartialEq, Eq)]

@@ -6,7 +6,7 @@ ghost use Rattle.std.specs.String.{string_bytes};
 ghost use Rattle.mf_front.specs.Texts.{place_text, refused_text, end_text, status_of, text_of};
 
 use crate::outcome::{End, Outcome};
-use mf_types::fault::{Fault, NoMemory, Place};
+use plain_types::fault::{Fault, NoMemory, Place};
 use std::alloc::{AllocError, Global};
 
 /// The line that tells which words are a job.
@@ -99,7 +99,7 @@ pub fn status(outcome: &Outcome) -> u8
 mod tests {
     use super::*;
     use crate::outcome::{End, Outcome};
-    use mf_types::list::Text;
+    use plain_types::list::Text;
     use std::test::Fail;
 
     /// Each outcome with its status and its line.

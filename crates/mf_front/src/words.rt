@@ -5,8 +5,8 @@ ghost use Rattle.std.specs.String.{string_bytes};
 ghost use Rattle.mf_front.specs.Words.{is_option, job_of};
 
 use crate::jobs::{Job, JobRefusal};
-use mf_types::list::Text;
-use mf_types::numeral::number;
+use plain_types::list::Text;
+use numerals::numeral::number;
 use std::alloc::Global;
 
 /// Whether a word has two or more characters and begins with a hyphen.

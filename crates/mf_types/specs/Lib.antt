@@ -1,12 +1,4 @@
-pub mod Counts
 pub mod Files
-pub mod Flash
-pub mod FlashCalls
-pub mod HubStates
 pub mod LinkCalls
-pub mod LinkStates
-pub mod Numerals
 pub mod Pieces
-pub mod Queued
 pub mod Received
-pub mod SendLog

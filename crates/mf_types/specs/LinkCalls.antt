@@ -1,6 +1,6 @@
 -- What the calls of a link and of a hub do.
 use Rattle.std.specs.Prelude.{◌≡◌, not, ◌^◌, ℕ, ◌+◌, ◌<◌, ◌≤◌, ◌==◌, min, Bool, true, false, IsTrue, List, [], ◌∷◌, ◌++◌, length, take, drop, if◌then◌else◌, nat_le}
-use Rattle.mf_types.specs.Counts.{Rose}
+use Rattle.plain_types.specs.Counts.{Rose}
 use Rattle.mf_types.specs.declared.link.Coming.{Coming}
 use Rattle.mf_types.specs.declared.link.Coming.TheVariants.{Piece, Silence}
 

@@ -1,6 +1,6 @@
 //! Files by name.
 
-use crate::list::{Items, Text};
+use plain_types::list::{Items, Text};
 
 /// A file: its name, and its bytes.
 #[derive(Debug, Drop)]

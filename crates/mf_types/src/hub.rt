@@ -1,10 +1,10 @@
 //! A link that begins its own connections.
 
 ghost use Rattle.std.specs.Prelude.{◌≡◌, ◌<◌, IsTrue, IfOk, OnOk, OnErr, IsOk};
-ghost use Rattle.mf_types.specs.Counts.{Rose};
+ghost use Rattle.plain_types.specs.Counts.{Rose};
 ghost use Rattle.mf_types.specs.LinkCalls.{HubState, Unused, Starter, Listener, is_listening, Connects, KeepsLink, FailsAtLink};
 
-use crate::fault::Failed;
+use plain_types::fault::Failed;
 use crate::link::Link;
 
 /// A hub is itself the link of its newest connection. Its sends, its list to come and its counts go on over its

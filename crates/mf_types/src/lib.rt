@@ -1,26 +1,20 @@
-//! The types, limits and outside traits that every crate of `mfdeploy` shares.
+//! The traits of the outside: store, sink, link and hub. The plain types, the types of the board and of assemblies, numbers in words and the flash stand in crates of their own, and are handed on here.
 #![tactic(auto)]
 
-pub mod board;
-pub mod calls;
-pub mod elem;
-pub mod fault;
 pub mod files;
-pub mod flash;
-pub mod flash_law;
 pub mod hub;
-pub mod id;
-pub mod lattice;
 pub mod link;
-pub mod list;
-pub mod memory_hub;
-pub mod memory_link;
-pub mod memory_sink;
-pub mod memory_store;
-pub mod numeral;
-pub mod queue;
-pub mod send_log;
 pub mod sink;
-pub mod stack;
 pub mod store;
-pub mod subclass;
+
+pub use board_types::board;
+pub use board_types::subclass;
+pub use ecma_types::id;
+pub use ecma_types::lattice;
+pub use ecma_types::stack;
+pub use flash_trait::flash;
+pub use flash_trait::flash_law;
+pub use numerals::numeral;
+pub use plain_types::elem;
+pub use plain_types::fault;
+pub use plain_types::list;

@@ -4,8 +4,8 @@ ghost use Rattle.std.specs.Prelude.{◌≡◌, ◌≢◌, ◌<◌, ◌≤◌, Is
 ghost use Rattle.mf_types.specs.LinkCalls.{LinkState, IsSent, IsCutShort, HasRoom, FailsToReceive};
 ghost use Rattle.mf_types.specs.Received.{Receives};
 
-use crate::fault::Failed;
-use crate::list::Items;
+use plain_types::fault::Failed;
+use plain_types::list::Items;
 
 /// How many bytes a receive takes at most.
 pub const RECEIVE_SIZE: usize = 2_048;

@@ -1,10 +1,10 @@
 //! Where a call writes its text.
 
 ghost use Rattle.std.specs.Prelude.{◌≡◌, ◌≤◌, ◌+◌, ℕ, Bool, List, ◌++◌, IsTrue, IsOk, OnOk, OnErr, length};
-ghost use Rattle.mf_types.specs.Counts.{Rose};
+ghost use Rattle.plain_types.specs.Counts.{Rose};
 ghost use Rattle.mf_types.specs.Pieces.{AppendsFront};
 
-use crate::fault::Failed;
+use plain_types::fault::Failed;
 
 /// A place that takes bytes in pieces.
 pub trait Sink {

@@ -1,12 +1,12 @@
 //! The files that a call reads and writes.
 
 ghost use Rattle.std.specs.Prelude.{◌≡◌, ◌≢◌, ◌≤◌, ◌+◌, ℕ, Bool, List, Option, Some, IsTrue, IsNone, IfOk, OnOk, IsErrOf};
-ghost use Rattle.mf_types.specs.Counts.{Rose};
+ghost use Rattle.plain_types.specs.Counts.{Rose};
 ghost use Rattle.mf_types.specs.Files.{FilesStay, OthersStay};
 ghost use Rattle.mf_types.specs.declared.store.FailedCall.{FailedCall};
 
-use crate::fault::NoMemory;
-use crate::list::Text;
+use plain_types::fault::NoMemory;
+use plain_types::list::Text;
 use std::alloc::Global;
 use thiserror::Error;
 

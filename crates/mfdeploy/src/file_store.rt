@@ -1,9 +1,9 @@
 //! Files of the system.
 
 ghost use Rattle.std.specs.Prelude.{◌≡◌, ◌≢◌, ◌≤◌, Some, None, false};
-ghost use Rattle.mf_types.specs.Counts.{Rose};
+ghost use Rattle.plain_types.specs.Counts.{Rose};
 
-use mf_types::list::Text;
+use plain_types::list::Text;
 use mf_types::store::{FailedCall, Store, StoreErr};
 use std::alloc::Global;
 use std::rt::Files;

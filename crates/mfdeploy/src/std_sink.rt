@@ -2,7 +2,7 @@
 
 ghost use Rattle.std.specs.Prelude.{◌≡◌, [], false};
 
-use mf_types::fault::Failed;
+use plain_types::fault::Failed;
 use mf_types::sink::Sink;
 
 /// Standard output. What was written isn't told.

@@ -1,6 +1,6 @@
 -- What is known of metadata that break no rule.
 use Rattle.std.proofs.Common.{◌≡◌, ℕ, Bool, true, false, List, ◌∷◌, ◌++◌, Option, Some, None, Result, Ok, Err, refl, cond}
-use Rattle.mf_types.specs.declared.fault.Fault.{Fault}
+use Rattle.plain_types.specs.declared.fault.Fault.{Fault}
 use Rattle.file_tables.specs.Streams.{is_root}
 use Rattle.file_tables.specs.Rules.{Rule, first_broken, unless_broken}
 use Rattle.file_tables.specs.Metadata.{MetadataPart, metadata_of, metadata_rules}

@@ -1,8 +1,8 @@
 -- What the job `run1 FILE STEPS` comes to.
 use Rattle.std.specs.Prelude.{◌≡◌, ◌⊎◌, ℕ, ℤ, Bool, IsTrue, nat_le, if◌then◌else◌, List, Option, Some, None, Result, Ok, Err}
 use Rattle.std.specs.Option.{ok_or}
-use Rattle.mf_types.specs.Counts.{Rose}
-use Rattle.mf_types.specs.declared.fault.Fault.{Fault}
+use Rattle.plain_types.specs.Counts.{Rose}
+use Rattle.plain_types.specs.declared.fault.Fault.{Fault}
 use Rattle.mf_types.specs.declared.store.FailedCall.{FailedCall}
 use Rattle.mf_types.specs.declared.store.FailedCall.TheVariants.{Read}
 use Rattle.file_tables.specs.File.{FilePart, file_of}

@@ -1,6 +1,6 @@
 -- How a call ends: with a whole text and its status, or with a failing sink.
 use Rattle.std.specs.Prelude.{◌≡◌, ◌⊎◌, ℕ, Bool, IsTrue, List, ◌++◌}
-use Rattle.mf_types.specs.Counts.{Rose}
+use Rattle.plain_types.specs.Counts.{Rose}
 use Rattle.mf_types.specs.Pieces.{AppendsFront}
 use Rattle.mf_front.specs.declared.outcome.Outcome.{Outcome}
 use Rattle.mf_front.specs.Texts.{status_of, text_of}

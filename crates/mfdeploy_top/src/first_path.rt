@@ -10,7 +10,7 @@ use crate::form::code_of;
 use mf_front::jobs::{Job, JobRefusal};
 use mf_front::outcome::{End, Outcome};
 use mf_front::words::job;
-use mf_types::list::Text;
+use plain_types::list::Text;
 use mf_types::store::{Store, StoreErr};
 use std::alloc::Global;
 use tiny_interp::postfix::run1;

@@ -9,7 +9,7 @@ ghost use Rattle.mfdeploy_top.specs.FirstForm.{is_first_header, is_first_method,
 
 use cil_tables::{Tables, stream};
 use file_tables::bytes::{has_bit, u16_at, u32_at};
-use mf_types::fault::{Fault, Place, WHOLE_FILE};
+use plain_types::fault::{Fault, Place, WHOLE_FILE};
 use pe_reader::{Pe, metadata};
 use tiny_interp::postfix::is_postfix;
 

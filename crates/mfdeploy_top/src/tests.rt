@@ -2,9 +2,9 @@
 
 use crate::mfdeploy;
 use mf_types::files::NamedFile;
-use mf_types::list::{Items, Text};
-use mf_types::memory_sink::MemorySink;
-use mf_types::memory_store::MemoryStore;
+use plain_types::list::{Items, Text};
+use outside_in_memory::memory_sink::MemorySink;
+use outside_in_memory::memory_store::MemoryStore;
 use std::alloc::{AllocError, Global};
 use std::test::Fail;
 

@@ -1,10 +1,10 @@
 //! Writing the text of an outcome.
 
 ghost use Rattle.std.specs.Prelude.{◌≡◌, ◌≤◌, ◌++◌, IsTrue, OnOk, OnErr};
-ghost use Rattle.mf_types.specs.Counts.{Rose};
+ghost use Rattle.plain_types.specs.Counts.{Rose};
 ghost use Rattle.mf_types.specs.Pieces.{AppendsFront};
 
-use mf_types::fault::Failed;
+use plain_types::fault::Failed;
 use mf_types::sink::Sink;
 
 /// How many bytes are written at once, at most.

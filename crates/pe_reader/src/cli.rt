@@ -8,7 +8,7 @@ ghost use Rattle.pe_reader.specs.Headers.{HasHeaders, HasCliHeader};
 use crate::header::{Headers, broken};
 use crate::section::place_of_range;
 use file_tables::bytes::{has_bit, u32_at};
-use mf_types::fault::Fault;
+use plain_types::fault::Fault;
 
 /// The size of the CLI header.
 const CLI_SIZE: u32 = 72;

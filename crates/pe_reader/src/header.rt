@@ -6,7 +6,7 @@ ghost use Rattle.file_tables.specs.Rules.{rule_at, first_broken};
 ghost use Rattle.pe_reader.specs.Headers.{HasHeaders, HasCliHeader};
 
 use file_tables::bytes::{u16_at, u32_at};
-use mf_types::fault::{Fault, Place, WHOLE_FILE};
+use plain_types::fault::{Fault, Place, WHOLE_FILE};
 
 /// Where the headers stand in a file that keeps the rules on them.
 #[derive(Clone, Copy)]

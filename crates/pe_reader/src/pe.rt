@@ -8,7 +8,7 @@ use crate::cli::cli_header;
 use crate::header::{broken, read_headers};
 use crate::section::{place_of_range, section_holding};
 use file_tables::bytes::u32_at;
-use mf_types::fault::Fault;
+use plain_types::fault::Fault;
 use std::marker::Model;
 
 /// The PE part of a file that keeps rules 1 to 7. Contracts see it as the file's bytes, its sections, the entry token

@@ -1,5 +1,5 @@
 use super::*;
-use mf_types::fault::WHOLE_FILE;
+use plain_types::fault::WHOLE_FILE;
 use std::process::Abort;
 use std::test::*;
 

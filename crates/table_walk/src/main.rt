@@ -10,7 +10,7 @@ mod sum;
 use anyhow::{Result, anyhow, bail};
 use cil_listing::assembly::open;
 use cil_listing::members;
-use mf_types::fault::Fault;
+use plain_types::fault::Fault;
 use std::env::Env;
 use std::rt::Files;
 use std::{env, fs};

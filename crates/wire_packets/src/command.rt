@@ -21,6 +21,9 @@ pub const FETCH: u32 = 6;
 /// Ends a session.
 pub const CLOSE: u32 = 7;
 
+/// Asks which set the flash holds and in which bank, and which markers stand.
+pub const BANKS: u32 = 8;
+
 /// The request was done.
 pub const DONE: u8 = 0;
 

@@ -2,7 +2,7 @@
 use Rattle.std.proofs.Common.{◌≡◌, ℕ, ◌+◌, ◌<◌, ◌≤◌, List, [], ◌∷◌, ◌++◌, map, length, drop, get_or, Option, Some, None, refl, sym, ap, ◌∙◌, arith}
 use Rattle.std.specs.Prelude.{option_map, option_and_then, if◌then◌else◌, ◌&&◌, nat_le, Bool, true, false}
 use Rattle.std.proofs.lemmas.List.{append_assoc, drop_more}
-use Rattle.mf_types.specs.Numerals.{is_numeral, number_up_to}
+use Rattle.numerals.specs.Numerals.{is_numeral, number_up_to}
 use Rattle.std.specs.Str.Parse.{digits_value}
 use Rattle.std.proofs.lemmas.Bool.{leb-true}
 use Rattle.wire_session.specs.Net.{each}

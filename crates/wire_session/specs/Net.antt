@@ -3,7 +3,7 @@ use Rattle.std.specs.Prelude.{◌≡◌, ℕ, ◌==◌, nat_le, Result, Ok, Err,
 use Rattle.std.specs.Str.{bytes_eq}
 use Rattle.std.specs.Option.{option_or}
 use Rattle.std.specs.List.{slice_split}
-use Rattle.mf_types.specs.Numerals.{number_up_to}
+use Rattle.numerals.specs.Numerals.{number_up_to}
 use Rattle.wire_session.specs.declared.net.Item.{Item}
 use Rattle.wire_session.specs.declared.net.Item.TheVariants.{Newest, Turn}
 use Rattle.wire_session.specs.declared.net.NetRefusal.{NetRefusal}

@@ -1,10 +1,10 @@
 //! Which reply a request waits for.
 
 ghost use Rattle.std.specs.Prelude.{◌≡◌, ◌<◌, length};
-ghost use Rattle.wire_session.specs.Replies.{flash_shape, numbers_fit, is_run_end, has_asked_length, fits, answers, matches};
+ghost use Rattle.wire_session.specs.Replies.{flash_shape, numbers_fit, is_run_end, has_asked_length, banks_fit, is_banks, fits, answers, matches};
 
 use wire_packets::command::{
-    BAD_CODE, BAD_SET, CLOSE, DONE, ENDED, ERASE, FETCH, FLASH_FAILED, NO_MEMORY, NO_SET, OPEN,
+    BAD_CODE, BAD_SET, BANKS, CLOSE, DONE, ENDED, ERASE, FETCH, FLASH_FAILED, NO_MEMORY, NO_SET, OPEN,
     PROGRAM, READ, RUN, UNRESOLVED,
 };
 use wire_packets::decoding::u32_at;
@@ -52,6 +52,33 @@ fn has_asked_length(payload: &[u8], body: &[u8]) -> bool
     payload.len() == RANGE_SIZE && body.len() == u32_at(payload, 4) as usize
 }
 
+/// How many bytes tell of the banks: a kind, a bank, its number, and which markers stand.
+pub const BANKS_SIZE: usize = 10;
+
+/// The kind of a set that stands in a bank.
+pub const IN_A_BANK: u8 = 3;
+
+/// Whether the bank and the number are ones that a kind of set has.
+fn banks_fit(kind: u8, bank: u32, number: u32) -> bool
+    ensures { result ≡ banks_fit kind bank number }
+{
+    if kind == IN_A_BANK {
+        bank < 2
+    } else {
+        kind < IN_A_BANK && bank == 0 && number == 0
+    }
+}
+
+/// Whether the bytes tell of the banks.
+#[tactic(auto, unfolding(crate::specs::Replies::is_banks))]
+fn is_banks(body: &[u8]) -> bool
+    ensures { result ≡ is_banks body.now }
+{
+    body.len() == BANKS_SIZE
+        && banks_fit(body[0], u32_at(body, 1), u32_at(body, 5))
+        && body[9] < 4
+}
+
 /// Whether the bytes follow [`DONE`] in the reply to a request.
 #[tactic(auto, unfolding(crate::specs::Replies::fits))]
 fn fits(command: u32, payload: &[u8], body: &[u8]) -> bool
@@ -61,6 +88,7 @@ fn fits(command: u32, payload: &[u8], body: &[u8]) -> bool
         OPEN => body == FLASH_SHAPE.as_slice(),
         READ | FETCH => has_asked_length(payload, body),
         RUN => is_run_end(body),
+        BANKS => is_banks(body),
         PROGRAM | ERASE | CLOSE => body.is_empty(),
         _ => false,
     }

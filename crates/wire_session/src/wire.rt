@@ -8,7 +8,7 @@ ghost use Rattle.wire_session.specs.declared.delivery.Planned.TheVariants.{Reque
 
 use crate::delivery::{Delivery, Planned};
 use crate::net::{Item, Net};
-use mf_types::fault::NoMemory;
+use plain_types::fault::NoMemory;
 use std::alloc::Global;
 use std::collections::VecDeque;
 use std::marker::Model;

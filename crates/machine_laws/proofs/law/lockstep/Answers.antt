@@ -8,4 +8,5 @@ returns c =
     record {
       same = λ r board ecma t b e x a n most. whole.same r board ecma b e x.answers x.board_finds x.ecma_finds n most (never_stuck (fetching ecma e) t a n most);
       runs = λ r board ecma t b e x a n most. whole.runs r board ecma b e x.answers x.board_finds x.ecma_finds n most (never_stuck (fetching ecma e) t a n most);
+      states = λ r board ecma t b e x a n most h. whole.states r board ecma b e x.answers x.board_finds x.ecma_finds n most (never_stuck (fetching ecma e) t a n most) h;
     }

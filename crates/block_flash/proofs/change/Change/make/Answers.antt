@@ -1,5 +1,5 @@
 use Rattle.std.proofs.Common.{◌≡◌, ℕ, subst, arith}
-use Rattle.mf_types.specs.Flash.{span}
+use Rattle.flash_trait.specs.Flash.{span}
 use Rattle.block_flash.specs.Change.{operation_of}
 use Rattle.block_flash.proofs.Sofar.{Sofar, sofar_all}
 use Rattle.block_flash.proofs.change.Change.make.Goals as goal

@@ -1,13 +1,13 @@
-use Rattle.std.proofs.Common.{◌≡◌, ℕ, List, None, refl, sym, ap, ◌∙◌, subst, length, arith}
+use Rattle.std.proofs.Common.{◌≡◌, ℕ, List, None, inl, refl, sym, ap, ◌∙◌, subst, length, arith}
 use Rattle.std.specs.Vec.{with_items}
 use Rattle.std.specs.Prelude.{Vec, Option, Some, ◌≤◌, nat_lt, false}
 use Rattle.std.proofs.lemmas.Bool.{le-ltb}
 use Rattle.std.specs.declared.alloc.Global.{Global}
 use Rattle.std.proofs.lemmas.List.{with_items_is}
-use Rattle.mf_types.specs.Flash.{Operation, IsStopped, after, cut}
-use Rattle.mf_types.specs.FlashCalls.{counted}
-use Rattle.mf_types.specs.declared.flash.Stop.{Stop}
-use Rattle.mf_types.proofs.FlashContents.{after_stopped, cut_stopped}
+use Rattle.flash_trait.specs.Flash.{Operation, IsStopped, after, cut}
+use Rattle.flash_trait.specs.FlashCalls.{counted}
+use Rattle.flash_trait.specs.declared.flash.Stop.{Stop}
+use Rattle.flash_trait.proofs.FlashContents.{after_stopped, cut_stopped}
 use Rattle.block_flash.specs.Change.{operation_of}
 use Rattle.block_flash.specs.History.{Keeps}
 use Rattle.block_flash.proofs.Undone.{history-keeps, spare_left}
@@ -25,9 +25,9 @@ pub returns-in-None-clause-ok : goal.returns-in-None-clause-ok
 returns-in-None-clause-ok c =
     let op = operation_of c.args.change.now in
     let old = c.args.self.now in
-    let before : c.deref_mut.result.now ≡ old.content.items = c.deref_mut.ensures.value in
+    let before : c.deref_mut-in-None.result.now ≡ old.content.items = c.deref_mut-in-None.ensures.value in
     let whole = c.make_whole.ensures ∙ ap (after op) before in
-    let content_is = written old.content op c.deref_mut.result.now c.make_whole.new.content (after op c.deref_mut.result.now) before c.deref_mut.ensures.len c.make_whole.ensures (after_stopped op c.deref_mut.result.now) ∙ whole in
+    let content_is = written old.content op c.deref_mut-in-None.result.now c.make_whole.new.content (after op c.deref_mut-in-None.result.now) before c.deref_mut-in-None.ensures.len c.make_whole.ensures (after_stopped op c.deref_mut-in-None.result.now) ∙ whole in
     record {
       content = content_is;
       not_due = c.in-None.ensures.due;
@@ -38,7 +38,7 @@ returns-in-None-clause-ok c =
       telling = refl;
       log = λ _.
           history-keeps op old.log.items c.keep.new.log.items old.content.items _
-          (subst (λ (xs : List ℕ). Keeps op xs old.log.items c.keep.new.log.items) c.deref-2.ensures.value c.keep.ensures.kept)
+          (subst (λ (xs : List ℕ). Keeps op xs old.log.items c.keep.new.log.items) c.deref.ensures.value c.keep.ensures.kept)
           (subst (λ (xs : List ℕ). IsStopped op old.content.items xs) (sym content_is) (after_stopped op old.content.items));
       spare = spare_left _ old.room _ _ c.keep.ensures.len;
     }
@@ -48,10 +48,10 @@ returns-in-Some-clause-cut c _ =
     let op = operation_of c.args.change.now in
     let old = c.args.self.now in
     let due = c.in-Some.ensures.due in
-    let mask_is : c.as_slice.result.now ≡ due.0.mask = c.as_slice.ensures ∙ due.3 in
+    let mask_is : c.as_slice-in-Some.result.now ≡ due.0.mask = c.as_slice-in-Some.ensures ∙ due.3 in
     let before : c.deref_mut-in-Some.result.now ≡ old.content.items = c.deref_mut-in-Some.ensures.value in
-    let made = c.make.ensures ∙ ap (cut op c.as_slice.result.now) before ∙ ap (λ (m : List ℕ). cut op m old.content.items) mask_is in
-    let content_is = written old.content op c.deref_mut-in-Some.result.now c.make.new.content (cut op c.as_slice.result.now c.deref_mut-in-Some.result.now) before c.deref_mut-in-Some.ensures.len c.make.ensures (cut_stopped op c.as_slice.result.now c.deref_mut-in-Some.result.now) ∙ made in
+    let made = c.make-in-Some.ensures ∙ ap (cut op c.as_slice-in-Some.result.now) before ∙ ap (λ (m : List ℕ). cut op m old.content.items) mask_is in
+    let content_is = written old.content op c.deref_mut-in-Some.result.now c.make-in-Some.new.content (cut op c.as_slice-in-Some.result.now c.deref_mut-in-Some.result.now) before c.deref_mut-in-Some.ensures.len c.make-in-Some.ensures (cut_stopped op c.as_slice-in-Some.result.now c.deref_mut-in-Some.result.now) ∙ made in
     record {
       stopped = (due.0, due.1, due.2, content_is);
       armed = c.count_operation-stop.ensures.armed ∙ spent old.armed due.0 due.1 due.2;
@@ -61,7 +61,29 @@ returns-in-Some-clause-cut c _ =
       telling = refl;
       log = λ _.
           history-keeps op old.log.items c.keep.new.log.items old.content.items _
-          (subst (λ (xs : List ℕ). Keeps op xs old.log.items c.keep.new.log.items) c.deref-2.ensures.value c.keep.ensures.kept)
+          (subst (λ (xs : List ℕ). Keeps op xs old.log.items c.keep.new.log.items) c.deref.ensures.value c.keep.ensures.kept)
           (subst (λ (xs : List ℕ). IsStopped op old.content.items xs) (sym content_is) (cut_stopped op due.0.mask old.content.items));
+      spare = spare_left _ old.room _ _ c.keep.ensures.len;
+    }
+
+pub returns-then-is_due-clause-failed : goal.returns-then-is_due-clause-failed
+returns-then-is_due-clause-failed c _ =
+    let op = operation_of c.args.change.now in
+    let old = c.args.self.now in
+    let mask = c.as_slice.result.now in
+    let before : c.deref_mut.result.now ≡ old.content.items = c.deref_mut.ensures.value in
+    let made = c.make.ensures ∙ ap (cut op mask) before in
+    let content_is = written old.content op c.deref_mut.result.now c.make.new.content (cut op mask c.deref_mut.result.now) before c.deref_mut.ensures.len c.make.ensures (cut_stopped op mask c.deref_mut.result.now) ∙ made in
+    record {
+      faults = omega arith;
+      content = subst (λ (xs : List ℕ). IsStopped op old.content.items xs) (sym content_is) (cut_stopped op mask old.content.items);
+      armed = c.count_operation-stop.ensures.armed;
+      on = refl;
+      stops = refl;
+      telling = refl;
+      log = inl (λ _.
+          history-keeps op old.log.items c.keep.new.log.items old.content.items _
+          (subst (λ (xs : List ℕ). Keeps op xs old.log.items c.keep.new.log.items) c.deref.ensures.value c.keep.ensures.kept)
+          (subst (λ (xs : List ℕ). IsStopped op old.content.items xs) (sym content_is) (cut_stopped op mask old.content.items)));
       spare = spare_left _ old.room _ _ c.keep.ensures.len;
     }

@@ -1,5 +1,5 @@
 use Rattle.std.proofs.Common.{ap}
-use Rattle.mf_types.specs.FlashCalls.{FlashState}
+use Rattle.flash_trait.specs.FlashCalls.{FlashState}
 use Rattle.block_flash.proofs.memory_flash.tests.erased.Goals as goal
 
 pub returns : goal.returns

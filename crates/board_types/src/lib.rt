@@ -1,0 +1,5 @@
+//! The types of the board: what its images' rows name, and what unwinding and the natives ask of them.
+#![tactic(auto)]
+
+pub mod board;
+pub mod subclass;

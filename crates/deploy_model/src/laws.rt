@@ -1,0 +1,89 @@
+//! Laws of the deployment. Each function does nothing: its contract is the law.
+
+ghost use Rattle.std.specs.Prelude.{◌≡◌, ◌≤◌, ◌==◌, ◌+◌, ◌-◌, ◌⊎◌, ℕ, suc, List, [], ◌∷◌, length, true, false, slice_index, slice_get, Option, Some};
+ghost use Rattle.flash_trait.specs.Flash.{Operation, AreBytes, IsStopped};
+ghost use Rattle.wire_packets.specs.declared.packet.Packet.{Packet};
+ghost use Rattle.wire_session.specs.declared.act.Act.TheVariants.{Do};
+ghost use Rattle.wire_packets.specs.declared.command.TheConstants.{BANKS, DONE, FLASH_FAILED, NO_MEMORY};
+ghost use Rattle.wire_session.specs.Replies.{matches};
+ghost use Rattle.wire_session.specs.Answering.{act_on};
+ghost use Rattle.deploy_model.specs.Banks.{Format, IsFormat, found, set_in, locate, ROOM, BODY, base, MOST_IMAGES, AreImages, joined, images_at, entries, WholeSet};
+ghost use Rattle.deploy_model.specs.Deployment.{Deploying, CanTake, banks, banks_bytes, plan_for, is_spent, operations, after_all};
+ghost use Rattle.deploy_model.specs.Moments.{Through, IsDeployable, Safe, IsKept};
+ghost use Rattle.deploy_model.specs.Board.{Parts, operation_asked, reply_to};
+ghost use Rattle.deploy_model.specs.World.{World, Event, run, ArePossible, asleep, begins};
+ghost use Rattle.deploy_model.specs.Tool.{Goal, DeploysAndRuns};
+ghost use Rattle.deploy_model.specs.Play.{play, playing, honest};
+ghost use Rattle.wire_session.specs.declared.net.Item.{Item};
+ghost use Rattle.flash_trait.specs.declared.flash.Stop.{Stop};
+ghost use Rattle.deploy_model.specs.Promise.{IsSound, SafeWork};
+
+/// A deployment without a network: before each of its operations, at each stop inside one and at the end, what is found
+/// is what was found at its start or the new set at its bank. After the last operation it is the new set.
+pub fn safe_operations()
+    ensures moments { (f : Format) (set start : List ℕ) → IsFormat f → IsDeployable f set → length start ≡ 262144 → is_spent (banks f start) ≡ false →
+        Through (Safe f start set (plan_for (banks f start)).target) (operations (plan_for (banks f start)) set) start }
+    ensures end { (f : Format) (set start : List ℕ) → IsFormat f → IsDeployable f set → length start ≡ 262144 → is_spent (banks f start) ≡ false →
+        found f (after_all (operations (plan_for (banks f start)) set) start) ≡ set_in f (plan_for (banks f start)).target set }
+{}
+
+/// What the operations keep at each of these moments, of any start: all outside the target bank, but for the first eight
+/// bytes where the start has a set that ends behind bank 0; and the target as it was, as long as its marker is whole,
+/// until it is the new one.
+pub fn kept_by_operations()
+    ensures { (f : Format) (set start : List ℕ) → length set ≤ ROOM → AreBytes set → length start ≡ 262144 →
+        Through (IsKept start set (plan_for (banks f start)) ((locate f start).kind == 2)) (operations (plan_for (banks f start)) set) start }
+{}
+
+/// Whatever packets are lost, repeated or reordered, wherever the power stops and operations fail, and through any
+/// number of sessions and sets: the world is sound.
+pub fn sound_worlds()
+    ensures { (parts : Parts) (content : List ℕ) (events : List Event) → IsFormat parts.format → length content ≡ 262144 → AreBytes content →
+        ArePossible parts (asleep content) events → IsSound parts (run parts events (asleep content)) }
+{}
+
+/// The contents that a stop inside an operation may leave, for the moments of a flash: where the board does a request,
+/// each is safe.
+pub fn safe_stops()
+    ensures { (parts : Parts) (content : List ℕ) (events : List Event) → IsFormat parts.format → length content ≡ 262144 → AreBytes content →
+        ArePossible parts (asleep content) events → let w = run parts events (asleep content) in w.on ≡ true →
+        (i : ℕ) (p : Packet) (op : Operation) → slice_get w.requests i ≡ Some p → act_on w.board p ≡ Do → operation_asked p ≡ Some op →
+        (left : List ℕ) → IsStopped op w.content left → SafeWork parts w.tool.goal.work w.start left }
+{}
+
+/// What a script of the network and a stop stand for are events that can happen, one after the other, whatever they are.
+pub fn scripts_can_happen()
+    ensures { (parts : Parts) (w : World) (turns : ℕ) (script : List Item) (stop : Option Stop) →
+        let p = play parts turns 0 script (playing w stop) in (run parts p.events w ≡ p.world) × ArePossible parts w p.events }
+{}
+
+/// The board's replies to a deployment's requests are those that the tool waits for.
+pub fn replies_match()
+    ensures operation { (p : Packet) (op : Operation) → operation_asked p ≡ Some op →
+        (matches p (reply_to p (DONE ∷ [])) ≡ true) × (matches p (reply_to p (FLASH_FAILED ∷ [])) ≡ true) }
+    ensures banks { (f : Format) (content : List ℕ) (p : Packet) → AreBytes content → p.command ≡ BANKS →
+        matches p (reply_to p (DONE ∷ banks_bytes (banks f content))) ≡ true }
+{}
+
+/// A reply that the tool waited for, other than want of memory, is one that a deployment can take.
+pub fn awaited_can_be_taken()
+    ensures { (d : Deploying) (request reply : Packet) → matches request reply ≡ true → 1 ≤ d.asked → (d.asked ≡ 2 → request.command ≡ BANKS) →
+        (slice_index reply.payload.items 0 ≡ NO_MEMORY → ⊥) → CanTake d reply.payload.items }
+{}
+
+/// Over a network that delivers what is sent, and a flash that doesn't fail, a session deploys its set: in two turns and
+/// one for each operation it is told as done, and it is what is found.
+pub fn honest_networks_deploy()
+    ensures { (parts : Parts) (goal : Goal) (set content : List ℕ) → IsFormat parts.format → IsDeployable parts.format set → length content ≡ 262144 → AreBytes content →
+        is_spent (banks parts.format content) ≡ false → goal.work ≡ DeploysAndRuns set →
+        let plan = plan_for (banks parts.format content) in
+        let w = honest parts (suc (suc (length (operations plan set)))) (begins (asleep content) goal) in
+        (w.tool.told ≡ true) × (found parts.format w.content ≡ set_in parts.format plan.target set) }
+{}
+
+/// Images that are written one after the other into a bank, at most 32 of them and one with an entry, are found there.
+pub fn sets_are_read()
+    ensures { (f : Format) → IsFormat f → (images : List (List ℕ)) (bank : ℕ) → AreImages f images → length images ≤ MOST_IMAGES →
+        (ROOM - length (joined images) ≡ 0) ⊎ (4 ≤ ROOM - length (joined images)) → entries f (images_at (base bank + BODY) images) ≡ 1 →
+        set_in f bank (joined images) ≡ WholeSet (images_at (base bank + BODY) images) }
+{}

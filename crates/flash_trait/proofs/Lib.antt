@@ -1,0 +1,3 @@
+pub mod FlashBytes
+pub mod FlashContents
+pub mod FlashMoments

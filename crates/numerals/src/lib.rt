@@ -1,0 +1,4 @@
+//! Numbers in words.
+#![tactic(auto)]
+
+pub mod numeral;

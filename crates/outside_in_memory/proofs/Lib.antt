@@ -1,0 +1,4 @@
+pub mod FilesLemmas
+pub mod HubLemmas
+pub mod QueueLemmas
+pub mod SendLogLemmas

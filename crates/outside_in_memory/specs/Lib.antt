@@ -1,0 +1,4 @@
+pub mod HubStates
+pub mod LinkStates
+pub mod Queued
+pub mod SendLog

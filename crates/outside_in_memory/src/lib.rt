@@ -1,0 +1,10 @@
+//! The outside in memory, for tests: store, sink, link and hub, with calls that fail where it is asked.
+#![tactic(auto)]
+
+pub mod calls;
+pub mod memory_hub;
+pub mod memory_link;
+pub mod memory_sink;
+pub mod memory_store;
+pub mod queue;
+pub mod send_log;
