@@ -33,7 +33,7 @@ use Rattle.class_rules.proofs.Low.{class_back, type_is, interface_bare, no_inter
 use Rattle.class_rules.proofs.MadeLaws.{kinds, objects, plain_object, basic_there}
 use Rattle.class_rules.proofs.ProgramLaws.{refers_two, filter_has, exceptions, enum_low, sig_plain, plain_fields, makes}
 use Rattle.class_rules.proofs.NeedsLaws.{map_inv, Owned, owned, stands_there, native_here, line_needs, begins}
-use Rattle.code_rules.specs.Clauses.{lie_well, clause_lets}
+use Rattle.classes.specs.Clauses.{lie_well, clause_lets}
 use Rattle.code_rules.specs.Pass.{Lattice, Step, Entry, standing as stack_at}
 use Rattle.code_rules.specs.Flow.{targets}
 use Rattle.code_rules.specs.Verdict.{stands_well, has_this, names_method, names_field, names_type, is_new, is_instance_field, operand_fits, steps_from, passed}

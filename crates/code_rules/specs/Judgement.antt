@@ -15,7 +15,7 @@ use Rattle.classes.specs.Queries.{is_sub, basic, some_eq}
 use Rattle.class_rules.specs.Merge.{merge}
 use Rattle.class_rules.specs.Made.{made}
 use Rattle.class_rules.specs.Rules.{sig_fits}
-use Rattle.code_rules.specs.Clauses.{lie_well}
+use Rattle.classes.specs.Clauses.{lie_well}
 use Rattle.code_rules.specs.Pass.{Lattice, Step, Entry, standing}
 use Rattle.code_rules.specs.Flow.{targets}
 use Rattle.code_rules.specs.Verdict.{steps_from, passed}
