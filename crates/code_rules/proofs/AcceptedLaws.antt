@@ -37,7 +37,7 @@ use Rattle.classes.specs.Clauses.{lie_well, clause_lets}
 use Rattle.code_rules.specs.Pass.{Lattice, Step, Entry, standing as stack_at}
 use Rattle.code_rules.specs.Flow.{targets}
 use Rattle.code_rules.specs.Verdict.{stands_well, has_this, names_method, names_field, names_type, is_new, is_instance_field, operand_fits, steps_from, passed}
-use Rattle.code_rules.specs.Judgement.{lattice_of, lines_rise, is_some_line, is_closed, is_start, is_targeted, catches_well, is_ok, steps_of, code_fits, CodesFit, types_in, types_of, handled_of, typing_of}
+use Rattle.code_rules.specs.Judgement.{lattice_of, lines_rise, is_some_line, is_closed, is_start, on_starts, is_targeted, catches_well, is_ok, steps_of, code_fits, CodesFit, types_in, types_of, handled_of, typing_of}
 use Rattle.code_rules.proofs.PassLaws.{LatticeLaws, IsStart, Closed}
 use Rattle.code_rules.proofs.FlowLaws.{Special}
 use Rattle.code_rules.proofs.ClauseLaws.{handler_holds, leave_passes}
@@ -206,7 +206,7 @@ module _ (n : ℕ) (x : Sources) (r : IsRead n x.classes) (b : IsBase x.classes)
       closed : is_closed steps ≡ true
       targeted : list_all (is_targeted cs code steps) code.lines ≡ true
       clauses : lie_well code.clauses ≡ true
-      starts : list_all (λ c. is_start steps c.start) code.clauses ≡ true
+      starts : list_all (on_starts steps) code.clauses ≡ true
       catches : list_all (λ c. catches_well cs b.exception c.kind) code.clauses ≡ true
       accepted : is_ok (passed x l (ClassOf b.exception) m code) ≡ true
 
@@ -218,7 +218,7 @@ module _ (n : ℕ) (x : Sources) (r : IsRead n x.classes) (b : IsBase x.classes)
         let a4 = and_parts (is_closed steps) _ a3.1 in
         let a5 = and_parts (list_all (is_targeted cs code steps) code.lines) _ a4.1 in
         let a6 = and_parts (lie_well code.clauses) _ a5.1 in
-        let a7 = and_parts (list_all (λ c. is_start steps c.start) code.clauses) _ a6.1 in
+        let a7 = and_parts (list_all (on_starts steps) code.clauses) _ a6.1 in
         let a8 = and_parts (list_all (λ c. catches_well cs b.exception c.kind) code.clauses) (is_ok (passed x l (ClassOf b.exception) m code)) a7.1 in
         record { locals = a1.0; rise = a2.0; some = a3.0; closed = a4.0; targeted = a5.0; clauses = a6.0; starts = a7.0; catches = a8.0; accepted = a8.1 }
 
@@ -380,7 +380,7 @@ module _ (n : ℕ) (x : Sources) (r : IsRead n x.classes) (b : IsBase x.classes)
           tries = λ i at. ap (λ z. unwrap_or (on_some z (λ (code : MethodCode). option_map (λ c. in_try c at) (slice_get code.clauses i))) false) coded;
           special = λ j line i there e u. special line.at line.shape line.operand i e u.operand u.stood;
           needs = λ j line there. line_needs n x r b k (types_of x b.exception) (handled_of x) line.shape line.operand;
-          handlers_start = λ j c there. start_here c.start (all_at (λ c. is_start steps c.start) code.clauses j c fitting.starts there);
+          handlers_start = λ j c there. start_here c.start (and_parts (is_start steps c.start) _ (all_at (on_starts steps) code.clauses j c fitting.starts there)).0;
           kinds = λ j c there. caught c.kind (all_at (λ c. catches_well cs b.exception c.kind) code.clauses j c fitting.catches there);
           locals = plain_local;
           result = plain_result;
