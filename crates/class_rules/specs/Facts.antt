@@ -7,9 +7,6 @@ use Rattle.machine_typed.specs.Typing.{is_refers, is_number, is_plain, has_body}
 use Rattle.classes.specs.Classes.{Classes, OwnMethod, Signature, TypeKind}
 use Rattle.classes.specs.Queries.{ends, parents, is_interface, superclass_of, interfaces_of, instance_fields, methods_of, method_at, basic, array, class_of, type_of_class, is_or_implements, is_virtual_named, target}
 
-abbrev pub kind_of : Classes → Id → Option TypeKind
-kind_of cs c = option_map (λ k. k.kind) (cs.class c)
-
 -- the chains and the base library's top
 pub record Order (cs : Classes) : Type 0 where
   -- neither superclasses nor interfaces go in a circle (24, 25)

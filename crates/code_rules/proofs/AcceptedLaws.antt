@@ -16,12 +16,12 @@ use Rattle.machine_typed.proofs.Heaps.{some_inv}
 use Rattle.machine_typed.proofs.Types.{type_here}
 use Rattle.classes.specs.Classes.{Classes, Class, OwnField, SigType, Spelt, ClassToken, ValueToken, ArraySig, TypeKind, Reference, Builtin, Enumeration, OtherValue}
 use Rattle.classes.specs.Code.{Operand, CodeLine, CodeClause, CodeClauseKind, CatchOf, Finally, OtherKind, MethodCode, Sources, NoOperand, Number, Targets, OfType, OfField, OfMethod, OfText, Unresolved}
-use Rattle.classes.specs.Queries.{basic, is_sub, fits, is_interface, is_instance, is_instance_kind, type_by_kind, type_of_class, type_of, method_at, fields_of, own_instance_fields, instance_fields, field_at}
+use Rattle.classes.specs.Queries.{basic, is_sub, fits, is_interface, is_instance, is_instance_kind, type_by_kind, type_of_class, type_of, method_at, fields_of, own_instance_fields, instance_fields, field_at, kind_of}
 use Rattle.classes.specs.Listed.{program_of, method, no_code, clause_of, instruction_of, innermost, is_catch_kind, is_finally_kind, method_of, field_of, type_of_operand, access_of, target_of, targets_of, text_of, is_constructor, in_handler, in_try}
-use Rattle.class_rules.specs.Facts.{Order, Members, Objects, Kinds, kind_of, is_reference_class, class_of_object}
+use Rattle.class_rules.specs.Facts.{Order, Members, Objects, Kinds, is_reference_class, class_of_object}
 use Rattle.class_rules.specs.Rules.{holds_some, sig_fits, result_fits, signature_fits, method_signature_fits, under_object, entry_fits, Keeps}
 use Rattle.class_rules.specs.Made.{is_made, made}
-use Rattle.class_rules.specs.Base.{IsRead, IsBase}
+use Rattle.class_rules.specs.Base.{IsBase}
 use Rattle.class_rules.proofs.Ways.{any_at, at_any, all_at}
 use Rattle.class_rules.proofs.Slots.{found}
 use Rattle.class_rules.proofs.FitsLaws.{same_fits, fits_up}
@@ -44,6 +44,7 @@ use Rattle.code_rules.proofs.ClauseLaws.{handler_holds, leave_passes}
 use Rattle.code_rules.proofs.MethodLaws.{LinesRise, CaughtWell, Catches, Finalises, accepted_fits}
 use Rattle.code_rules.proofs.OperandLaws.{call_virtual}
 use Rattle.code_rules.proofs.SpecialLaws.{ends_finally, rethrows}
+use Rattle.classes.specs.Reading.{IsRead}
 
 map_get : {A B : Type 0} (f : A → B) (xs : List A) (i : ℕ) (y : B) → slice_get (map f xs) i ≡ Some y → (a : A) × (slice_get xs i ≡ Some a) × (f a ≡ y)
 map_get f [] i y e = absurd (cc e)
