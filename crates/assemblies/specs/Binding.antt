@@ -1,4 +1,5 @@
--- What the names of a set mean (machine rules of names), and the set's classes and code.
+-- What the names of a set mean, and the set's classes and code. An assembly is found by its name and version, a type by namespace,
+-- name and enclosing type, a member by its class, name and signature (II.22).
 use Rattle.std.specs.Prelude.{codes, ℕ, zero, suc, Bool, true, false, ◌+◌, ◌&&◌, nat_eq, nat_lt, nat_le, if◌then◌else◌, List, [], ◌∷◌, map, take, drop, Option, Some, None, slice_get, unwrap_or}
 use Rattle.std.specs.List.{position, filter_map}
 use Rattle.std.specs.Option.{option_map}

@@ -15,9 +15,10 @@ use Rattle.classes.specs.Queries.{listed, reaches, ends, above, parents, supercl
 use Rattle.classes.specs.Listed.{is_constructor}
 use Rattle.class_rules.specs.Facts.{Order, Members}
 use Rattle.class_rules.specs.Rules.{holds_some, is_user, only_if, may_be_extended, superclass_fits, is_native, constructor_fits, is_initialiser_name, initialiser_fits, method_stands_well, all_reached, Keeps}
-use Rattle.class_rules.specs.Base.{IsRead, IsBase}
+use Rattle.class_rules.specs.Base.{IsBase}
 use Rattle.class_rules.proofs.Ways.{any_at, all_at}
 use Rattle.class_rules.proofs.FitsLaws.{id_here}
+use Rattle.classes.specs.Reading.{IsRead}
 
 pub holds_inv : {A : Type 0} (o : Option A) (test : A → Bool) → holds_some o test ≡ true → (a : A) × (o ≡ Some a) × (test a ≡ true)
 holds_inv None test e = absurd (cc e)

@@ -10,14 +10,15 @@ use Rattle.machine.specs.Data.{Id, id_eq, Basic, Cell, Bits, Refers, cell_of, el
 use Rattle.machine_typed.specs.Typing.{is_refers, is_number, is_bits}
 use Rattle.machine_typed.proofs.Types.{id_same}
 use Rattle.classes.specs.Classes.{Classes, OwnField, TypeKind, Reference, Builtin, Enumeration, OtherValue}
-use Rattle.classes.specs.Queries.{listed, reaches, above, parents, superclass_of, interfaces_of, is_interface, basic, array, some_eq, class_of, type_by_kind, type_of_class, fields_of, own_instance_fields, instance_fields_within, is_instance}
-use Rattle.class_rules.specs.Facts.{Order, kind_of, is_reference_class}
+use Rattle.classes.specs.Queries.{listed, reaches, above, parents, superclass_of, interfaces_of, is_interface, basic, array, some_eq, class_of, type_by_kind, type_of_class, fields_of, own_instance_fields, instance_fields_within, is_instance, kind_of}
+use Rattle.class_rules.specs.Facts.{Order, is_reference_class}
 use Rattle.class_rules.specs.Rules.{field_stands_well, Keeps}
-use Rattle.class_rules.specs.Base.{IsRead, IsBase}
+use Rattle.class_rules.specs.Base.{IsBase}
 use Rattle.class_rules.proofs.Ways.{or_left, or_right, any_at, at_any, all_at}
 use Rattle.class_rules.proofs.Slots.{first_parent}
 use Rattle.class_rules.proofs.FitsLaws.{both_some}
 use Rattle.class_rules.proofs.Kept.{part_of, listed_inv, filter_none, extending, interfaces_only, parent_is, order}
+use Rattle.classes.specs.Reading.{IsRead}
 
 pub bits_no_reference : (o : Option Cell) → is_bits o ≡ true → is_refers o ≡ false
 bits_no_reference (Some (Bits i)) e = refl

@@ -10,17 +10,18 @@ use Rattle.machine_typed.specs.Typing.{is_refers, is_number, is_bits, is_plain, 
 use Rattle.machine_typed.proofs.Heaps.{some_inv}
 use Rattle.machine_typed.proofs.Types.{type_same}
 use Rattle.classes.specs.Classes.{Classes, Class, TypeKind, Reference, Builtin, Enumeration, OtherValue}
-use Rattle.classes.specs.Queries.{reaches, parents, superclass_of, is_interface, is_or_implements, is_sub, basic, array, some_eq, class_of, type_by_kind, type_of_class, methods_of, method_at, instance_fields, target}
-use Rattle.class_rules.specs.Facts.{Order, Filled, Objects, Kinds, kind_of, is_reference_class, class_of_object, is_instance_type}
+use Rattle.classes.specs.Queries.{reaches, parents, superclass_of, is_interface, is_or_implements, is_sub, basic, array, some_eq, class_of, type_by_kind, type_of_class, methods_of, method_at, instance_fields, target, kind_of}
+use Rattle.class_rules.specs.Facts.{Order, Filled, Objects, Kinds, is_reference_class, class_of_object, is_instance_type}
 use Rattle.class_rules.specs.Rules.{holds_some, only_if, has_body_at, is_slot, fills, is_filled, under_object, Keeps}
 use Rattle.class_rules.specs.Made.{is_made, made}
-use Rattle.class_rules.specs.Base.{IsRead, IsBase}
+use Rattle.class_rules.specs.Base.{IsBase}
 use Rattle.class_rules.proofs.Ways.{or_left, or_right, at_any, all_at, reach_within}
 use Rattle.class_rules.proofs.Slots.{first_parent}
 use Rattle.class_rules.proofs.FitsLaws.{id_here, both_some}
 use Rattle.class_rules.proofs.MergeLaws.{sub_reaches}
 use Rattle.class_rules.proofs.Kept.{holds_inv, only_then, all_reached_at, no_super, interfaces_only, order}
 use Rattle.class_rules.proofs.Low.{bits_no_reference, type_is, class_back, basic_type, no_interface, Low, Under, low_way, class_way, value_low, string_low, arrays_super, Bare, bare_under, object_bare, value_bare, enums_bare, interface_bare}
+use Rattle.classes.specs.Reading.{IsRead}
 
 bits_plain : (e : Elem) → is_bits (elem_cell e) ≡ true → is_some (elem_cell e) ≡ true
 bits_plain e h = by (elem_cell e) h

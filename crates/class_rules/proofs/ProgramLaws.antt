@@ -1,6 +1,6 @@
 -- What the rules and the base library give the machine's typing of a program, besides that of its code.
 use Rattle.std.proofs.Common.{◌≡◌, ◌⊎◌, inl, inr, ⊎_elim, ℕ, zero, suc, Bool, true, false, List, [], ◌∷◌, Option, Some, None, refl, sym, ap, ◌∙◌, subst}
-use Rattle.std.specs.Prelude.{◌&&◌, ◌||◌, slice_get, unwrap_or, is_some, cond}
+use Rattle.std.specs.Prelude.{if◌then◌else◌, ◌&&◌, ◌||◌, slice_get, unwrap_or, is_some, cond}
 use Rattle.std.specs.Option.{option_map}
 use Rattle.std.specs.List.{list_any, filter}
 use Rattle.std.proofs.lemmas.Bool.{and_parts, or_cases, and_from, both_ways, cases_Bool}
@@ -15,12 +15,12 @@ use Rattle.machine_typed.proofs.Heaps.{some_inv}
 use Rattle.machine_typed.proofs.Types.{id_same}
 use Rattle.classes.specs.Classes.{Classes, Class, OwnField, SigType, Spelt, ClassToken, ValueToken, ArraySig, TypeKind, Reference, Builtin, Enumeration, OtherValue, FieldKind, InstanceField, StaticField, LiteralField, DataField}
 use Rattle.classes.specs.Code.{Sources}
-use Rattle.classes.specs.Queries.{reaches, above, superclass_of, is_interface, is_sub, basic, array, some_eq, fits, type_by_kind, type_of_class, type_of, fields_of, own_instance_fields, instance_fields_within, instance_fields, is_instance, is_instance_kind, fields, known}
+use Rattle.classes.specs.Queries.{reaches, above, superclass_of, is_interface, is_sub, basic, array, some_eq, fits, type_by_kind, type_of_class, type_of, fields_of, own_instance_fields, instance_fields_within, instance_fields, is_instance, is_instance_kind, fields, known, kind_of, is_integer}
 use Rattle.classes.specs.Listed.{program_of}
-use Rattle.class_rules.specs.Facts.{Order, Members, Objects, kind_of, is_reference_class, class_of_object, is_instance_type}
-use Rattle.class_rules.specs.Rules.{is_integer, is_none_there, is_void, value_well, sig_fits, is_data_kind, field_signature_fits, under_object, Keeps}
+use Rattle.class_rules.specs.Facts.{Order, Members, Objects, is_reference_class, class_of_object, is_instance_type}
+use Rattle.class_rules.specs.Rules.{is_none_there, is_void, value_well, sig_fits, is_data_kind, data_sig_fits, field_signature_fits, under_object, Keeps}
 use Rattle.class_rules.specs.Made.{is_made, made}
-use Rattle.class_rules.specs.Base.{IsRead, IsBase, native_takes, native_gives}
+use Rattle.class_rules.specs.Base.{IsBase, native_takes, native_gives}
 use Rattle.class_rules.proofs.Ways.{any_at, all_at}
 use Rattle.class_rules.proofs.FitsLaws.{both_some}
 use Rattle.class_rules.proofs.DispatchLaws.{way_to}
@@ -28,6 +28,7 @@ use Rattle.class_rules.proofs.ObjectLaws.{fields_inv, types_at}
 use Rattle.class_rules.proofs.Kept.{holds_inv, part_of, split_list, listed_inv, apart, order, members}
 use Rattle.class_rules.proofs.Low.{bits_no_reference, type_is, builtin_sort, no_interface, extended, step_to, from_object, from_value, low_way, class_way, Under, object_super, arrays_super}
 use Rattle.class_rules.proofs.MadeLaws.{enum_kind, made_enum, made_basic, instance_of, low_object, same_some, named, objects}
+use Rattle.classes.specs.Reading.{IsRead}
 
 -- ---- small facts
 
@@ -311,12 +312,10 @@ module _ (n : ℕ) (x : Sources) (r : IsRead n x.classes) (b : IsBase x.classes)
       let t = types_at cs (instance_fields cs c) ts i type (fields_inv cs c ts e) h in
       let q = in_fields cs.size c i t.0 t.1 in
       let w = part_of (cs.class q.0) (λ z. z.fields) q.1 t.0 q.2 in
-      let f = holds_inv t.0.signature (λ s. is_data_kind t.0.kind || sig_fits cs s) (all_at (field_signature_fits cs) w.0.fields q.1 t.0 (k.field_signatures q.0 w.0 w.1) w.2) in
+      let f = holds_inv t.0.signature (λ s. if is_data_kind t.0.kind then data_sig_fits cs s else sig_fits cs s) (all_at (field_signature_fits cs) w.0.fields q.1 t.0 (k.field_signatures q.0 w.0 w.1) w.2) in
       let same : type_of cs f.0 ≡ type = (let both : Some (type_of cs f.0) ≡ Some type = sym (ap (option_map (type_of cs)) f.1) ∙ t.2 in cc both) in
-      ⊎_elim
-      (λ y. absurd (both_ways (is_data_kind t.0.kind) (no_data t.0.kind q.3) y))
-      (λ y. subst (λ z. is_plain z ≡ true) same (sig_plain f.0 y))
-      (or_cases (is_data_kind t.0.kind) (sig_fits cs f.0) f.2)
+      let fits : sig_fits cs f.0 ≡ true = sym (ap (λ (d : Bool). if d then data_sig_fits cs f.0 else sig_fits cs f.0) (no_data t.0.kind q.3)) ∙ f.2 in
+      subst (λ z. is_plain z ≡ true) same (sig_plain f.0 fits)
 
   -- ---- the library's exceptions
 

@@ -1,4 +1,4 @@
--- What the record of classes has from the way it is read off files, and what it has because its first two files are the base library.
+-- What classes have because their first two files are the base library.
 use Rattle.std.specs.Prelude.{◌≡◌, codes, ℕ, ◌+◌, ◌≤◌, true, false, ◌&&◌, not, List, [], ◌∷◌, ◌++◌, map, Option, Some, None, slice_get, is_some}
 use Rattle.std.specs.Option.{option_map}
 use Rattle.board_types.specs.declared.board.Known.{Known}
@@ -8,25 +8,10 @@ use Rattle.machine.specs.Data.{Id, id_eq, Basic, ClassOf, ValueOf, ArrayOf, Plac
 use Rattle.machine.specs.Program.{Native, NativeName, ObjectToString, EnumEquals, EnumToString, ArrayLength, ArrayCopy, StringLength, StringChars, StringConcat, StringSubstring, StringEquals, StringCompare, StringFromChars, StringFromChar, NumberSigned, NumberUnsigned, InitializeArray, DebugPrint}
 use Rattle.machine_typed.specs.Typing.{is_number}
 use Rattle.classes.specs.Classes.{Classes, OwnMethod, Signature, Reference, Builtin, Enumeration, OtherValue}
-use Rattle.classes.specs.Queries.{parents, superclass_of, is_interface, own_instance_fields, methods_of, method_at, basic, array, known, library_class, fields, place_of, type_of}
+use Rattle.classes.specs.Queries.{parents, superclass_of, is_interface, own_instance_fields, methods_of, method_at, basic, array, known, library_class, fields, place_of, type_of, kind_of}
 use Rattle.classes.specs.Listed.{this_before}
-use Rattle.class_rules.specs.Facts.{kind_of}
 use Rattle.class_rules.specs.Rules.{holds_some, is_user, may_be_extended, under_object, is_filled}
 use Rattle.class_rules.specs.Made.{is_made}
-
--- by reading: `n` is the number of all types
-pub record IsRead (n : ℕ) (cs : Classes) : Type 0 where
-  -- a chain of superclasses and then interfaces needs the room of both
-  pub room : n + n ≤ cs.size
-  -- a row belongs to one class, and is found there by its number
-  pub owner : (c : Id) (i : ℕ) (m : OwnMethod) → slice_get (methods_of cs c) i ≡ Some m → cs.method_owner m.id ≡ Some c
-  pub entry : (c : Id) (i : ℕ) (m : OwnMethod) → slice_get (methods_of cs c) i ≡ Some m → method_at cs m.id ≡ Some m
-  -- the kind of a type: the library's by name; else by the superclass
-  pub builtin : (c : Id) (e : Elem) → kind_of cs c ≡ Some (Builtin e) → basic cs e ≡ Some c
-  pub basic_kind : (c : Id) (e : Elem) → basic cs e ≡ Some c → kind_of cs c ≡ Some (Builtin e)
-  pub enumeration : (c : Id) (e : Elem) → kind_of cs c ≡ Some (Enumeration e) → superclass_of cs c ≡ library_class cs (codes "Enum")
-  pub other : (c : Id) → kind_of cs c ≡ Some OtherValue → superclass_of cs c ≡ library_class cs (codes "ValueType")
-  pub reference : (c d : Id) → kind_of cs c ≡ Some Reference → superclass_of cs c ≡ Some d → library_class cs (codes "Enum") ≡ Some d → ⊥
 
 -- what a native takes and gives, with the classes Enum, Array and RuntimeFieldHandle
 abbrev pub word : Elem → PlaceType

@@ -4,11 +4,8 @@ use Rattle.std.specs.Option.{option_map}
 use Rattle.plain_types.specs.declared.elem.Elem.TheVariants as elem
 use Rattle.machine.specs.Data.{Id, CliType, Basic, EnumOf, ClassOf, ValueOf, ArrayOf, cell_of}
 use Rattle.machine_typed.specs.Typing.{is_refers, is_number, is_plain, has_body}
-use Rattle.classes.specs.Classes.{Classes, OwnMethod, TypeKind}
-use Rattle.classes.specs.Queries.{ends, parents, is_interface, superclass_of, interfaces_of, instance_fields, methods_of, method_at, basic, array, class_of, type_of_class, is_or_implements, target}
-
-abbrev pub kind_of : Classes → Id → Option TypeKind
-kind_of cs c = option_map (λ k. k.kind) (cs.class c)
+use Rattle.classes.specs.Classes.{Classes, OwnMethod, Signature, TypeKind}
+use Rattle.classes.specs.Queries.{ends, parents, is_interface, superclass_of, interfaces_of, instance_fields, methods_of, method_at, basic, array, class_of, type_of_class, is_or_implements, is_virtual_named, target}
 
 -- the chains and the base library's top
 pub record Order (cs : Classes) : Type 0 where
@@ -78,3 +75,25 @@ pub record Kinds (cs : Classes) (o : Order cs) (made : CliType → Bool) : Type 
   pub string_alone : (own : CliType) → made own ≡ true → class_of cs own ≡ Some string → own ≡ Basic elem.String
   -- above those that are no instances, but for themselves, stand no classes with instance fields, nor Exception (26, the base library)
   pub flat : (own : CliType) (c k : Id) → made own ≡ true → is_instance_type own ≡ false → class_of_object cs own ≡ Some c → is_or_implements cs c k ≡ true → is_reference_class cs k ≡ true → instance_fields cs k ≡ []
+
+-- what a virtual call finds besides the method itself: a virtual method of its name and signature, at a class that the object's reaches
+pub record Overriding (cs : Classes) (c b : Id) (m : OwnMethod) : Type 0 where
+  pub class : Id
+  pub n : ℕ
+  pub method : OwnMethod
+  pub reached : is_or_implements cs c class ≡ true
+  pub there : slice_get (methods_of cs class) n ≡ Some method
+  pub named : is_virtual_named m method ≡ true
+  pub is : b ≡ method.id
+
+-- what `callvirt` may name (46): an instance method of a class or an interface
+pub record Callable (cs : Classes) (id : Id) : Type 0 where
+  pub owner : Id
+  pub n : ℕ
+  pub entry : OwnMethod
+  pub signature : Signature
+  pub there : slice_get (methods_of cs owner) n ≡ Some entry
+  pub is : entry.id ≡ id
+  pub signed : entry.signature ≡ Some signature
+  pub instance : signature.has_this ≡ true
+  pub not_static : entry.is_static ≡ false

@@ -1,7 +1,7 @@
 -- The rules of refusal on classes and their members, each a test of one class (of one member where that is looked at by itself).
 -- Rules 23 to 31; what only rows tell (an Extends or a type of a signature that doesn't resolve, a class layout, two types of one
 -- name) is a test on rows, and leaves here a superclass, an interface or a signature that isn't there.
-use Rattle.std.specs.Prelude.{◌≡◌, codes, ℕ, zero, suc, Bool, true, false, ◌&&◌, ◌||◌, not, nat_le, nat_eq, List, [], ◌∷◌, Option, Some, None, is_some}
+use Rattle.std.specs.Prelude.{◌≡◌, codes, ℕ, zero, suc, Bool, true, false, ◌&&◌, ◌||◌, not, nat_le, nat_eq, if◌then◌else◌, List, [], ◌∷◌, Option, Some, None, is_some}
 use Rattle.std.specs.List.{list_all, list_any}
 use Rattle.plain_types.specs.declared.elem.Elem.{Elem}
 use Rattle.plain_types.specs.declared.elem.Elem.TheVariants as elem
@@ -12,7 +12,7 @@ use Rattle.machine.specs.Trace.{strings}
 use Rattle.machine_typed.specs.Typing.{is_number, has_body}
 use Rattle.classes.specs.Classes.{Classes, Class, OwnField, OwnMethod, Signature, SigType, Spelt, ClassToken, ValueToken, ArraySig, SigPlace, Direct, ByRef, FieldKind, DataField, TypeKind, Enumeration, OtherValue}
 use Rattle.classes.specs.Code.{Sources}
-use Rattle.classes.specs.Queries.{listed, ends, above, enclosing_of, interfaces_of, parents, is_interface, is_sub, some_eq, basic, array, library_class, type_of, type_of_class, own_instance_fields, is_instance, is_instance_kind, is_static_kind, is_named, is_field_named, methods_of, method_at, target, flag_eq}
+use Rattle.classes.specs.Queries.{listed, ends, above, enclosing_of, interfaces_of, parents, is_interface, is_sub, some_eq, basic, array, library_class, type_of, type_of_class, own_instance_fields, is_instance, is_instance_kind, is_static_kind, is_named, is_field_named, methods_of, method_at, target, flag_eq, is_integer, kind_of}
 use Rattle.classes.specs.Listed.{is_constructor}
 use Rattle.class_rules.specs.Facts.{is_reference_class}
 
@@ -55,17 +55,6 @@ implements_well n cs k = list_all (may_be_implemented n cs) k.interfaces
 
 -- ---- 26: value types
 
-abbrev pub is_integer : Elem → Bool
-is_integer elem.I1 = true
-is_integer elem.U1 = true
-is_integer elem.I2 = true
-is_integer elem.U2 = true
-is_integer elem.I4 = true
-is_integer elem.U4 = true
-is_integer elem.I8 = true
-is_integer elem.U8 = true
-is_integer _ = false
-
 abbrev pub is_spelt : Elem → Option SigType → Bool
 is_spelt e (Some (Spelt g)) = nat_eq (elem_number e) (elem_number g)
 is_spelt e _ = false
@@ -100,8 +89,18 @@ abbrev pub is_data_kind : FieldKind → Bool
 is_data_kind (DataField bytes) = true
 is_data_kind _ = false
 
+-- a value type of the user's that is no enum
+abbrev pub is_data_type : Id → TypeKind → Bool
+is_data_type c OtherValue = is_user c
+is_data_type c _ = false
+
+abbrev pub data_sig_fits : Classes → SigType → Bool
+data_sig_fits cs (ValueToken c) = is_number (type_of_class cs c) || holds_some (kind_of cs c) (is_data_type c)
+data_sig_fits cs (ArraySig s) = data_sig_fits cs s
+data_sig_fits cs s = sig_fits cs s
+
 abbrev pub field_signature_fits : Classes → OwnField → Bool
-field_signature_fits cs f = holds_some f.signature (λ s. is_data_kind f.kind || sig_fits cs s)
+field_signature_fits cs f = holds_some f.signature (λ s. if is_data_kind f.kind then data_sig_fits cs s else sig_fits cs s)
 
 abbrev pub is_handle : Classes → SigType → Bool
 is_handle cs (ValueToken c) = some_eq (Some c) (library_class cs (codes "RuntimeFieldHandle"))
@@ -123,10 +122,6 @@ abbrev pub method_signature_fits : Classes → Id → OwnMethod → Bool
 method_signature_fits cs c m = holds_some m.signature (signature_fits cs c)
 
 -- ---- 28: fields
-
-abbrev pub is_data_type : Id → TypeKind → Bool
-is_data_type c OtherValue = is_user c
-is_data_type c _ = false
 
 abbrev pub field_stands_well : Id → Class → OwnField → Bool
 field_stands_well c k f =

@@ -73,9 +73,24 @@ type_by_kind (Some OtherValue) c = ValueOf c
 type_by_kind (Some Reference) c = ClassOf c
 type_by_kind None c = ClassOf c
 
+-- what the number of an enum may be: no bool and no char
+abbrev pub is_integer : Elem → Bool
+is_integer elem.I1 = true
+is_integer elem.U1 = true
+is_integer elem.I2 = true
+is_integer elem.U2 = true
+is_integer elem.I4 = true
+is_integer elem.U4 = true
+is_integer elem.I8 = true
+is_integer elem.U8 = true
+is_integer _ = false
+
+abbrev pub kind_of : Classes → Id → Option TypeKind
+kind_of cs c = option_map (λ k. k.kind) (cs.class c)
+
 -- the type of places that a class gives
 abbrev pub type_of_class : Classes → Id → CliType
-type_of_class cs c = type_by_kind (option_map (λ k. k.kind) (cs.class c)) c
+type_of_class cs c = type_by_kind (kind_of cs c) c
 
 abbrev pub type_of : Classes → SigType → CliType
 type_of cs (Spelt e) = Basic e

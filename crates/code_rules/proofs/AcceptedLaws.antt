@@ -16,12 +16,12 @@ use Rattle.machine_typed.proofs.Heaps.{some_inv}
 use Rattle.machine_typed.proofs.Types.{type_here}
 use Rattle.classes.specs.Classes.{Classes, Class, OwnField, SigType, Spelt, ClassToken, ValueToken, ArraySig, TypeKind, Reference, Builtin, Enumeration, OtherValue}
 use Rattle.classes.specs.Code.{Operand, CodeLine, CodeClause, CodeClauseKind, CatchOf, Finally, OtherKind, MethodCode, Sources, NoOperand, Number, Targets, OfType, OfField, OfMethod, OfText, Unresolved}
-use Rattle.classes.specs.Queries.{basic, is_sub, fits, is_interface, is_instance, is_instance_kind, type_by_kind, type_of_class, type_of, method_at, fields_of, own_instance_fields, instance_fields, field_at}
+use Rattle.classes.specs.Queries.{basic, is_sub, fits, is_interface, is_instance, is_instance_kind, type_by_kind, type_of_class, type_of, method_at, fields_of, own_instance_fields, instance_fields, field_at, kind_of}
 use Rattle.classes.specs.Listed.{program_of, method, no_code, clause_of, instruction_of, innermost, is_catch_kind, is_finally_kind, method_of, field_of, type_of_operand, access_of, target_of, targets_of, text_of, is_constructor, in_handler, in_try}
-use Rattle.class_rules.specs.Facts.{Order, Members, Objects, Kinds, kind_of, is_reference_class, class_of_object}
+use Rattle.class_rules.specs.Facts.{Order, Members, Objects, Kinds, is_reference_class, class_of_object}
 use Rattle.class_rules.specs.Rules.{holds_some, sig_fits, result_fits, signature_fits, method_signature_fits, under_object, entry_fits, Keeps}
 use Rattle.class_rules.specs.Made.{is_made, made}
-use Rattle.class_rules.specs.Base.{IsRead, IsBase}
+use Rattle.class_rules.specs.Base.{IsBase}
 use Rattle.class_rules.proofs.Ways.{any_at, at_any, all_at}
 use Rattle.class_rules.proofs.Slots.{found}
 use Rattle.class_rules.proofs.FitsLaws.{same_fits, fits_up}
@@ -33,17 +33,18 @@ use Rattle.class_rules.proofs.Low.{class_back, type_is, interface_bare, no_inter
 use Rattle.class_rules.proofs.MadeLaws.{kinds, objects, plain_object, basic_there}
 use Rattle.class_rules.proofs.ProgramLaws.{refers_two, filter_has, exceptions, enum_low, sig_plain, plain_fields, makes}
 use Rattle.class_rules.proofs.NeedsLaws.{map_inv, Owned, owned, stands_there, native_here, line_needs, begins}
-use Rattle.code_rules.specs.Clauses.{lie_well, clause_lets}
+use Rattle.classes.specs.Clauses.{lie_well, clause_lets}
 use Rattle.code_rules.specs.Pass.{Lattice, Step, Entry, standing as stack_at}
 use Rattle.code_rules.specs.Flow.{targets}
 use Rattle.code_rules.specs.Verdict.{stands_well, has_this, names_method, names_field, names_type, is_new, is_instance_field, operand_fits, steps_from, passed}
-use Rattle.code_rules.specs.Judgement.{lattice_of, lines_rise, is_some_line, is_closed, is_start, is_targeted, catches_well, is_ok, steps_of, code_fits, CodesFit, types_in, types_of, handled_of, typing_of}
+use Rattle.code_rules.specs.Judgement.{lattice_of, lines_rise, is_some_line, is_closed, is_start, on_starts, is_targeted, catches_well, is_ok, steps_of, code_fits, CodesFit, types_in, types_of, handled_of, typing_of}
 use Rattle.code_rules.proofs.PassLaws.{LatticeLaws, IsStart, Closed}
 use Rattle.code_rules.proofs.FlowLaws.{Special}
 use Rattle.code_rules.proofs.ClauseLaws.{handler_holds, leave_passes}
 use Rattle.code_rules.proofs.MethodLaws.{LinesRise, CaughtWell, Catches, Finalises, accepted_fits}
 use Rattle.code_rules.proofs.OperandLaws.{call_virtual}
 use Rattle.code_rules.proofs.SpecialLaws.{ends_finally, rethrows}
+use Rattle.classes.specs.Reading.{IsRead}
 
 map_get : {A B : Type 0} (f : A → B) (xs : List A) (i : ℕ) (y : B) → slice_get (map f xs) i ≡ Some y → (a : A) × (slice_get xs i ≡ Some a) × (f a ≡ y)
 map_get f [] i y e = absurd (cc e)
@@ -206,7 +207,7 @@ module _ (n : ℕ) (x : Sources) (r : IsRead n x.classes) (b : IsBase x.classes)
       closed : is_closed steps ≡ true
       targeted : list_all (is_targeted cs code steps) code.lines ≡ true
       clauses : lie_well code.clauses ≡ true
-      starts : list_all (λ c. is_start steps c.start) code.clauses ≡ true
+      starts : list_all (on_starts steps) code.clauses ≡ true
       catches : list_all (λ c. catches_well cs b.exception c.kind) code.clauses ≡ true
       accepted : is_ok (passed x l (ClassOf b.exception) m code) ≡ true
 
@@ -218,7 +219,7 @@ module _ (n : ℕ) (x : Sources) (r : IsRead n x.classes) (b : IsBase x.classes)
         let a4 = and_parts (is_closed steps) _ a3.1 in
         let a5 = and_parts (list_all (is_targeted cs code steps) code.lines) _ a4.1 in
         let a6 = and_parts (lie_well code.clauses) _ a5.1 in
-        let a7 = and_parts (list_all (λ c. is_start steps c.start) code.clauses) _ a6.1 in
+        let a7 = and_parts (list_all (on_starts steps) code.clauses) _ a6.1 in
         let a8 = and_parts (list_all (λ c. catches_well cs b.exception c.kind) code.clauses) (is_ok (passed x l (ClassOf b.exception) m code)) a7.1 in
         record { locals = a1.0; rise = a2.0; some = a3.0; closed = a4.0; targeted = a5.0; clauses = a6.0; starts = a7.0; catches = a8.0; accepted = a8.1 }
 
@@ -380,7 +381,7 @@ module _ (n : ℕ) (x : Sources) (r : IsRead n x.classes) (b : IsBase x.classes)
           tries = λ i at. ap (λ z. unwrap_or (on_some z (λ (code : MethodCode). option_map (λ c. in_try c at) (slice_get code.clauses i))) false) coded;
           special = λ j line i there e u. special line.at line.shape line.operand i e u.operand u.stood;
           needs = λ j line there. line_needs n x r b k (types_of x b.exception) (handled_of x) line.shape line.operand;
-          handlers_start = λ j c there. start_here c.start (all_at (λ c. is_start steps c.start) code.clauses j c fitting.starts there);
+          handlers_start = λ j c there. start_here c.start (and_parts (is_start steps c.start) _ (all_at (on_starts steps) code.clauses j c fitting.starts there)).0;
           kinds = λ j c there. caught c.kind (all_at (λ c. catches_well cs b.exception c.kind) code.clauses j c fitting.catches there);
           locals = plain_local;
           result = plain_result;

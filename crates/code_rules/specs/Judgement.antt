@@ -9,13 +9,13 @@ use Rattle.machine.specs.Throw.{on_some}
 use Rattle.machine_typed.specs.Typing.{StackType, assignable}
 use Rattle.machine_typed.specs.Accepted.{Typing}
 use Rattle.classes.specs.Classes.{Classes}
-use Rattle.classes.specs.Code.{CodeLine, CodeClauseKind, CatchOf, Finally, OtherKind, MethodCode, Sources}
+use Rattle.classes.specs.Code.{CodeLine, CodeClause, CodeClauseKind, CatchOf, Finally, OtherKind, MethodCode, Sources}
 use Rattle.classes.specs.Listed.{in_handler, instruction_of, method, program_of}
 use Rattle.classes.specs.Queries.{is_sub, basic, some_eq}
 use Rattle.class_rules.specs.Merge.{merge}
 use Rattle.class_rules.specs.Made.{made}
 use Rattle.class_rules.specs.Rules.{sig_fits}
-use Rattle.code_rules.specs.Clauses.{lie_well}
+use Rattle.classes.specs.Clauses.{lie_well}
 use Rattle.code_rules.specs.Pass.{Lattice, Step, Entry, standing}
 use Rattle.code_rules.specs.Flow.{targets}
 use Rattle.code_rules.specs.Verdict.{steps_from, passed}
@@ -47,7 +47,19 @@ is_start steps place = list_any (λ s. nat_eq s.at place) steps
 abbrev pub is_targeted : Classes → MethodCode → List Step → CodeLine → Bool
 is_targeted cs code steps l = list_all (is_start steps) (unwrap_or (option_map targets (instruction_of cs code l.at l.shape l.operand)) [])
 
--- 44, besides how clauses lie: a kind that is known, and of a catch a class that is Object, or Exception or below it
+-- 44, besides how clauses lie: regions on instruction starts, which may end where the code does
+abbrev pub end_of : List Step → ℕ
+end_of [] = 0
+end_of (s ∷ []) = s.next
+end_of (s ∷ (t ∷ ss)) = end_of (t ∷ ss)
+
+abbrev pub is_bound : List Step → ℕ → Bool
+is_bound steps place = is_start steps place || nat_eq place (end_of steps)
+
+abbrev pub on_starts : List Step → CodeClause → Bool
+on_starts steps c = is_start steps c.start && (is_start steps c.try_start && (is_bound steps c.try_end && is_bound steps c.end))
+
+-- a kind that is known, and of a catch a class that is Object, or Exception or below it
 abbrev pub catches_well : Classes → Id → CodeClauseKind → Bool
 catches_well cs exception (CatchOf (Some class)) = some_eq (Some class) (basic cs elem.Object) || is_sub cs class exception
 catches_well cs exception (CatchOf None) = false
@@ -70,7 +82,7 @@ code_fits x exception m code =
     && (is_closed (steps_of x (ClassOf exception) m code)
     && (list_all (is_targeted x.classes code (steps_of x (ClassOf exception) m code)) code.lines
     && (lie_well code.clauses
-    && (list_all (λ c. is_start (steps_of x (ClassOf exception) m code) c.start) code.clauses
+    && (list_all (on_starts (steps_of x (ClassOf exception) m code)) code.clauses
     && (list_all (λ c. catches_well x.classes exception c.kind) code.clauses
     && is_ok (passed x (lattice_of x) (ClassOf exception) m code))))))))
 

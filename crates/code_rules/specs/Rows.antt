@@ -17,8 +17,10 @@ pub data Rest : Type 0 where
   WantsNone : Rest
 
 pub record Row : Type 0 where
-  -- the operand is there, and of the kind that the row takes (46, 47)
+  -- the operand is there, and of the kind that the row takes; and which rule is broken where it isn't: 47 of the number of an
+  -- argument or local, else 46
   pub sound : Bool
+  pub rule : ℕ
   pub pops : ℕ
   pub pushes : ℕ
   -- from the types taken, the topmost one last, to those given, the topmost one first; none where one is wrong (53)
@@ -67,7 +69,7 @@ or_short before (Some x) go = go x
 
 abbrev pub judged : Row → ℕ → List StackType → Result (List StackType) (List ℕ)
 judged row most ts =
-    if row.sound then or_short (over most ts) (take_arguments row.pops ts []) (λ t. or_broken (over most ts ++ (too_deep row.rest most row.pushes t.rest ++ (wrong (row.gives t.arguments) ++ not_alone row.rest t.rest))) (on_some (row.gives t.arguments) (λ us. behind row.rest us t.rest))) else Err (46 ∷ [])
+    if row.sound then or_short (over most ts) (take_arguments row.pops ts []) (λ t. or_broken (over most ts ++ (too_deep row.rest most row.pushes t.rest ++ (wrong (row.gives t.arguments) ++ not_alone row.rest t.rest))) (on_some (row.gives t.arguments) (λ us. behind row.rest us t.rest))) else Err (row.rule ∷ [])
 
 -- ---- the table
 
@@ -88,7 +90,7 @@ three f (x ∷ (y ∷ (z ∷ []))) = f x y z
 three f _ = None
 
 abbrev pub row : Bool → ℕ → ℕ → (List StackType → Option (List StackType)) → Row
-row sound pops pushes gives = record { sound = sound; pops = pops; pushes = pushes; gives = gives; rest = Keeps }
+row sound pops pushes gives = record { sound = sound; rule = 46; pops = pops; pushes = pushes; gives = gives; rest = Keeps }
 
 abbrev pub no_row : Row
 no_row = row false 0 0 (λ ts. None)
@@ -97,6 +99,11 @@ no_row = row false 0 0 (λ ts. None)
 abbrev pub named : {A : Type 0} → Option A → (A → Row) → Row
 named None make = no_row
 named (Some x) make = make x
+
+-- by the number of an argument or local
+abbrev pub placed : Option PlaceType → (PlaceType → Row) → Row
+placed None make = record no_row { rule = 47 }
+placed (Some type) make = make type
 
 -- a value is pushed; a value that fits is taken
 abbrev pub pushing : Bool → StackType → Row
@@ -117,8 +124,8 @@ abbrev pub call_row : Program → Bool → Method → Row
 call_row p sound c = row sound (length c.arguments) (result_count c.returns) (λ us. when (all_assignable p us (map loaded c.arguments)) (Some (result_row c.returns)))
 
 abbrev pub return_row : Program → Option PlaceType → Row
-return_row p None = record { sound = true; pops = 0; pushes = 0; gives = none (Some []); rest = WantsNone }
-return_row p (Some type) = record { sound = true; pops = 1; pushes = 0; gives = one (λ t. when (assignable p t (loaded type)) (Some [])); rest = WantsNone }
+return_row p None = record { sound = true; rule = 46; pops = 0; pushes = 0; gives = none (Some []); rest = WantsNone }
+return_row p (Some type) = record { sound = true; rule = 46; pops = 1; pushes = 0; gives = one (λ t. when (assignable p t (loaded type)) (Some [])); rest = WantsNone }
 
 abbrev pub address_row : PlaceType → Row
 address_row (Plain type) = row true 0 1 (none (when (is_plain type) (Some (P type ∷ []))))
@@ -135,12 +142,12 @@ row_of p exception m Nop = row true 0 0 (none (Some []))
 row_of p exception m (Push v) = named (type_of_constant p v) (pushing true)
 row_of p exception m Dup = row true 1 2 (one (λ t. Some (t ∷ (t ∷ []))))
 row_of p exception m Pop = row true 1 0 (one (λ t. Some []))
-row_of p exception m (LoadArgument n) = named (slice_get m.arguments n) (λ k. pushing true (loaded k))
-row_of p exception m (StoreArgument n) = named (slice_get m.arguments n) (λ k. storing p true (loaded k))
-row_of p exception m (LoadArgumentAddress n) = named (slice_get m.arguments n) address_row
-row_of p exception m (LoadLocal n) = named (slice_get m.locals n) (λ k. pushing true (loaded k))
-row_of p exception m (StoreLocal n) = named (slice_get m.locals n) (λ k. storing p true (loaded k))
-row_of p exception m (LoadLocalAddress n) = named (slice_get m.locals n) address_row
+row_of p exception m (LoadArgument n) = placed (slice_get m.arguments n) (λ k. pushing true (loaded k))
+row_of p exception m (StoreArgument n) = placed (slice_get m.arguments n) (λ k. storing p true (loaded k))
+row_of p exception m (LoadArgumentAddress n) = placed (slice_get m.arguments n) address_row
+row_of p exception m (LoadLocal n) = placed (slice_get m.locals n) (λ k. pushing true (loaded k))
+row_of p exception m (StoreLocal n) = placed (slice_get m.locals n) (λ k. storing p true (loaded k))
+row_of p exception m (LoadLocalAddress n) = placed (slice_get m.locals n) address_row
 row_of p exception m (Binary operator) = row true 2 1 (two (λ x y. on_some (binary_type (sort_of x) (sort_of y)) (λ t. Some (t ∷ []))))
 row_of p exception m (Shift operator) = row true 2 1 (two (λ x y. on_some (shift_type (sort_of x) (sort_of y)) (λ t. Some (t ∷ []))))
 row_of p exception m (Unary operator) = row true 1 1 (one (λ x. on_some (unary_type (sort_of x)) (λ t. Some (t ∷ []))))
@@ -177,7 +184,7 @@ row_of p exception m (IsInstance type) = row true 1 1 (one (λ t. when (is_refer
 row_of p exception m (Box type) = row true 1 1 (one (λ t. when (is_number type && assignable p t (of_type type)) (Some (O type ∷ []))))
 row_of p exception m (Unbox type) = row true 1 1 (one (λ t. when (is_reference t && is_number type) (Some (P type ∷ []))))
 row_of p exception m (UnboxAny type) = row true 1 1 (one (λ t. when (is_reference t && is_plain type) (Some (of_type type ∷ []))))
-row_of p exception m Throw = record { sound = true; pops = 1; pushes = 0; gives = one (λ t. when (assignable p t (O exception)) (Some [])); rest = Drops }
-row_of p exception m (Rethrow k) = record { sound = true; pops = 0; pushes = 0; gives = none (Some []); rest = Drops }
-row_of p exception m (Leave target) = record { sound = true; pops = 0; pushes = 0; gives = none (Some []); rest = Drops }
-row_of p exception m (EndFinally k) = record { sound = true; pops = 0; pushes = 0; gives = none (Some []); rest = WantsNone }
+row_of p exception m Throw = record { sound = true; rule = 46; pops = 1; pushes = 0; gives = one (λ t. when (assignable p t (O exception)) (Some [])); rest = Drops }
+row_of p exception m (Rethrow k) = record { sound = true; rule = 46; pops = 0; pushes = 0; gives = none (Some []); rest = Drops }
+row_of p exception m (Leave target) = record { sound = true; rule = 46; pops = 0; pushes = 0; gives = none (Some []); rest = Drops }
+row_of p exception m (EndFinally k) = record { sound = true; rule = 46; pops = 0; pushes = 0; gives = none (Some []); rest = WantsNone }

@@ -10,14 +10,11 @@ use Rattle.cil_opcodes.specs.declared.shape.Row.{Row}
 use Rattle.image_bytes.specs.Layout.{all_onto}
 use Rattle.assemblies.specs.Rows.{RawOperand, RawTargets, RawTypeOf, RawField, RawMethod, RawLine}
 use Rattle.image_form.specs.Signatures.{Each}
-use Rattle.image_form.specs.Codes.{number_onto, behind_first, bytes_for, signed_onto, NoBytes, SignedBy, UnsignedBy, Counted, Length, lie_of, FitsIn, size, instrs_of, instrs_onto, IsSound, Meaning, Words, placed, target, text_operand, distance, operand_of, line_of, lines_of, plain_of, instr_of, instrs_to, AllPlaces, OperandFits, LineFits, LinesFit}
+use Rattle.image_form.specs.Codes.{number_onto, behind_first, bytes_for, signed_onto, NoBytes, SignedBy, UnsignedBy, Counted, Length, lie_of, FitsIn, size, instrs_of, instrs_onto, IsSound, Meaning, Words, target, text_operand, distance, operand_of, line_of, lines_of, plain_of, instr_of, instrs_to, AllPlaces, OperandFits, LineFits, LinesFit}
 use Rattle.image_form.proofs.CodeLaws.{instrs_law}
 
-there : (next n : ℕ) → pos next +ℤ (pos n -ℤ pos next) ≡ pos n
-there next n = omega (arith, ints)
-
 target_law : (next n : ℕ) → target next (distance next (pos n)) ≡ pos n
-target_law next n = ap placed (there next n)
+target_law next n = omega (arith, ints)
 
 targets_law : (next : ℕ) (ts : List ℤ) → AllPlaces ts → map (target next) (map (distance next) ts) ≡ ts
 targets_law next [] h = refl

@@ -9,10 +9,11 @@ use Rattle.machine.specs.Throw.{on_some}
 use Rattle.machine.specs.Program.{Body}
 use Rattle.classes.specs.Classes.{FieldKind, TypeKind}
 use Rattle.image_bytes.specs.Layout.{is_range}
+use Rattle.assemblies.specs.Chosen.{first_of}
 use Rattle.assemblies.specs.Rows.{TypeToken, RawType, RawKind, RawCatch, RawFinally, RawOther, AssemblyRow, TypeRefRow, FieldRefRow, MethodRefRow, TypeRow, FieldRow, RawLine, RawClause, RawCode, MethodRow}
 use Rattle.image_form.specs.Signatures.{Each}
 use Rattle.image_form.specs.Codes.{short, instrs_of, lines_of}
-use Rattle.image_form.specs.Form.{on_both, all_some, checked, part, first_of, bit, type_flags, method_flags, native_word, native_body, Held, spec_at, part_at, assembly_at, ref_at, field_ref_at, method_ref_at, type_at, field_kind_at, field_at, interface_at, clause_at, no_code, code_with, body_with, body_at, method_at, lines_at, meaning, make_assembly_row, make_ref, make_field_ref, make_method_ref, make_type, make_field, make_clause, make_method, only_array, clauses_nest, has_room, Offsets, Manner, signature_word, locals_word, assembly_row, ref_row, field_ref_row, method_ref_row, type_row, type_rows, interface_row, field_row, field_rows, clause_row, spec_row, words, code_bytes, method_row, method_rows, bytes_in, clauses_in, data_of, data_rows, data_at, flat}
+use Rattle.image_form.specs.Form.{on_both, all_some, checked, part, bit, type_flags, method_flags, native_word, native_body, Held, spec_at, part_at, assembly_at, ref_at, field_ref_at, method_ref_at, type_at, field_kind_at, field_at, interface_at, clause_at, no_code, code_with, body_with, body_at, method_at, lines_at, meaning, make_assembly_row, make_ref, make_field_ref, make_method_ref, make_type, make_field, make_clause, make_method, only_array, clauses_nest, has_room, Offsets, Manner, signature_word, locals_word, assembly_row, ref_row, field_ref_row, method_ref_row, type_row, type_rows, interface_row, field_row, field_rows, clause_row, spec_row, words, code_bytes, method_row, method_rows, bytes_in, clauses_in, data_of, data_rows, data_at, flat}
 use Rattle.image_form.specs.Fits.{IsNoLiteral, NameHas, RefHas, FieldRefHas, MethodRefHas, TypeHas, FieldHas, SpecHas, ClauseHas, ClauseKindHas, CodeHas, BodyHas, MethodHas, TokenHas}
 use Rattle.image_form.proofs.MeaningLaws.{code_law}
 use Rattle.image_form.proofs.FlagLaws.{flags_law, bits_law, native_law}
@@ -164,8 +165,8 @@ module _ (h : Held) (o : Offsets) where
       let cls : part_at h (first_of (length prek) size) size h.clauses ≡ Some c.clauses = ap (part_at h (first_of (length prek) size) size) ek ∙ range_law h prek c.clauses postk in
       let lines : lines_at h start count ≡ c.lines = ap (λ b. lines_of (meaning h) short 0 (instrs_of row_of short b)) own ∙ code_law row_of short (meaning h) (words o) k.opcodes c.lines has.lines in
       let make : List RawLine → RawCode = λ ls. record { locals = c.locals; max_stack = c.max_stack; clauses = c.clauses; lines = ls } in
-      let tests : (nat_le (start + count) (length h.code) && clauses_nest count [] c.clauses && has_room c.max_stack c.clauses) ≡ true =
-      both_true (nat_le (start + count) (length h.code) && clauses_nest count [] c.clauses) (has_room c.max_stack c.clauses) (both_true (nat_le (start + count) (length h.code)) (clauses_nest count [] c.clauses) (le-leb (start + count) (length h.code) inside) has.nest) has.room in
+      let tests : (nat_le (start + count) (length h.code) && clauses_nest count c.clauses && has_room c.max_stack c.clauses) ≡ true =
+      both_true (nat_le (start + count) (length h.code) && clauses_nest count c.clauses) (has_room c.max_stack c.clauses) (both_true (nat_le (start + count) (length h.code)) (clauses_nest count c.clauses) (le-leb (start + count) (length h.code) inside) has.nest) has.room in
       ap (λ x. on_some x (λ ts. on_some (part_at h (first_of (length prek) size) size h.clauses) (body_with h flags start count c.max_stack ts))) has.locals
       ∙ ap (λ x. on_some x (body_with h flags start count c.max_stack c.locals)) cls
       ∙ if_false (bit 16 flags) _ (if nat_eq start 65535 then no_code h count c.clauses Body.Missing else code_with h start count c.max_stack c.locals c.clauses) native

@@ -1,6 +1,6 @@
 -- Code as instructions behind one another. One decoder serves both lengths of code: a file's, with four bytes for a token, a long
 -- distance and a count, and an image's, with two, two and one.
-use Rattle.std.specs.Prelude.{◌≡◌, ℕ, zero, suc, ◌+◌, ◌-◌, ◌*◌, ◌/◌, ◌%◌, ℤ, pos, negsuc, ◌+ℤ◌, ◌-ℤ◌, false, nat_eq, nat_lt, if◌then◌else◌, List, [], ◌∷◌, length, map, Option, Some, None, unsigned_abs}
+use Rattle.std.specs.Prelude.{◌≡◌, ℕ, zero, suc, ◌+◌, ◌-◌, ◌*◌, ◌/◌, ◌%◌, ℤ, pos, ◌+ℤ◌, ◌-ℤ◌, false, nat_eq, nat_lt, if◌then◌else◌, List, [], ◌∷◌, length, map, Option, Some, None, unsigned_abs}
 use Rattle.std.specs.Int.{Width, w8, w16, w32, w64, w128, cast_signed, cast_unsigned}
 use Rattle.std.specs.Int.RustNames.{FitsSigned}
 use Rattle.cil_opcodes.specs.declared.shape.Operand.{Operand}
@@ -171,13 +171,8 @@ pub record Meaning : Type 0 where
   pub method : ℕ → MemberToken
   pub text : ℕ → Option (List ℕ)
 
--- a target before the code is past the end of any
-abbrev pub placed : ℤ → ℤ
-placed (pos n) = pos n
-placed (negsuc n) = pos 4294967296
-
 abbrev pub target : ℕ → ℤ → ℤ
-target next d = placed (pos next +ℤ d)
+target next d = pos next +ℤ d
 
 abbrev pub text_operand : Option (List ℕ) → RawOperand
 text_operand None = RawNothing

@@ -73,7 +73,7 @@ module _ (h : Held) (o : Offsets) where
   pub record CodeHas (k : Manner) (c : RawCode) : Type 0 where
     pub some : 0 < length (code_bytes o k c)
     pub locals : locals_at h (locals_word o k.has_locals c.locals) ≡ Some c.locals
-    pub nest : clauses_nest (length (code_bytes o k c)) [] c.clauses ≡ true
+    pub nest : clauses_nest (length (code_bytes o k c)) c.clauses ≡ true
     pub room : has_room c.max_stack c.clauses ≡ true
     pub lines : LinesFit row_of short (meaning h) (words o) 0 k.opcodes c.lines
 

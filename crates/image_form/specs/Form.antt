@@ -1,5 +1,5 @@
 -- The rows of an image, and the image of rows.
-use Rattle.std.specs.Prelude.{ℕ, zero, suc, ◌+◌, ◌*◌, ◌/◌, ◌%◌, Bool, true, false, not, ◌&&◌, ◌||◌, nat_eq, nat_lt, nat_le, if◌then◌else◌, List, [], ◌∷◌, ◌++◌, length, take, drop, Option, Some, None, slice_get, unwrap_or}
+use Rattle.std.specs.Prelude.{ℕ, ◌+◌, ◌*◌, ◌/◌, ◌%◌, Bool, true, false, not, ◌&&◌, nat_eq, nat_lt, nat_le, if◌then◌else◌, List, [], ◌∷◌, ◌++◌, map, length, take, drop, Option, Some, None, slice_get, unwrap_or}
 use Rattle.std.specs.Option.{option_map}
 use Rattle.std.specs.List.{list_all, list_any}
 use Rattle.std.specs.Str.{is_utf8}
@@ -10,7 +10,10 @@ use Rattle.cil_opcodes.specs.Rows.{row_of}
 use Rattle.machine.specs.Throw.{on_some}
 use Rattle.machine.specs.Program.{Body, NativeName, ObjectToString, EnumEquals, EnumToString, ArrayLength, ArrayCopy, StringLength, StringChars, StringConcat, StringSubstring, StringEquals, StringCompare, StringFromChars, StringFromChar, NumberSigned, NumberUnsigned, InitializeArray, DebugPrint}
 use Rattle.classes.specs.Classes.{FieldKind, TypeKind}
+use Rattle.classes.specs.Code.{CodeClause, Finally}
+use Rattle.classes.specs.Clauses.{lie_well}
 use Rattle.image_bytes.specs.Layout.{is_range}
+use Rattle.assemblies.specs.Chosen.{first_of}
 use Rattle.assemblies.specs.Rows.{TypeToken, TypeDef, TypeRef, TypeSpec, Scope, OfAssembly, Inside, Nowhere, RawType, RawArray, RawSignature, AssemblyRow, TypeRefRow, FieldRefRow, MethodRefRow, TypeRow, FieldRow, RawLine, RawKind, RawCatch, RawFinally, RawOther, RawClause, RawCode, MethodRow}
 use Rattle.image_form.specs.Signatures.{type_word, type_token, member_word, member_token, elem_byte, elem_at, raw_onto, signature_onto, locals_onto, read_type, read_signature, read_locals, whole}
 use Rattle.image_form.specs.Codes.{short, Meaning, Words, instrs_of, instrs_onto, lines_of, instrs_to}
@@ -31,11 +34,6 @@ checked b x = if b then Some x else None
 
 abbrev pub part : {A : Type 0} → ℕ → ℕ → List A → List A
 part first count xs = take count (drop first xs)
-
--- part five writes the first row 0 where there is none
-abbrev pub first_of : ℕ → ℕ → ℕ
-first_of first zero = 0
-first_of first (suc n) = first
 
 abbrev pub or_none : {A : Type 0} → (A → ℕ) → Option A → ℕ
 or_none word None = 65535
@@ -130,51 +128,20 @@ is_native _ = false
 
 -- ---- the clauses of one method: rule 44 but for starts and classes
 
-abbrev pub meets : ℕ → ℕ → ℕ → ℕ → Bool
-meets a b c d = nat_lt (if nat_lt a c then c else a) (if nat_lt b d then b else d)
-
--- the first region lies in the second
-abbrev pub within : ℕ → ℕ → ℕ → ℕ → Bool
-within a b c d = nat_le c a && nat_le b d
-
-abbrev pub crosses : ℕ → ℕ → ℕ → ℕ → Bool
-crosses a b c d = meets a b c d && not (within a b c d) && not (within c d a b)
-
-abbrev pub same : Bool → Bool → Bool
-same true b = b
-same false b = not b
-
--- a region holds the try and the handler of the clause, or neither
-abbrev pub holds_both : ℕ → ℕ → RawClause → Bool
-holds_both a b c = same (within c.try_start c.try_end a b) (within c.start c.end a b)
-
-abbrev pub same_try : RawClause → RawClause → Bool
-same_try c d = nat_eq c.try_start d.try_start && nat_eq c.try_end d.try_end
-
--- a clause and an earlier one
-abbrev pub agree : RawClause → RawClause → Bool
-agree c p =
-    not (nat_eq c.start p.start)
-    && not (crosses c.try_start c.try_end p.try_start p.try_end) && not (crosses c.try_start c.try_end p.start p.end)
-    && not (crosses c.start c.end p.try_start p.try_end) && not (crosses c.start c.end p.start p.end)
-    && (same_try c p || (holds_both c.try_start c.try_end p && holds_both p.try_start p.try_end c))
-    && holds_both c.start c.end p && holds_both p.start p.end c
-    -- no outer clause before an inner one
-    && not (within c.try_start c.try_end p.start p.end)
-    && (same_try c p || not (within c.try_start c.try_end p.try_start p.try_end))
-
 abbrev pub is_known_kind : RawKind → Bool
 is_known_kind RawOther = false
 is_known_kind _ = true
 
-abbrev pub stands_alone : ℕ → RawClause → Bool
-stands_alone n c =
-    is_known_kind c.kind && nat_lt c.try_start c.try_end && nat_lt c.start c.end && nat_le c.try_end n && nat_le c.end n
-    && not (meets c.try_start c.try_end c.start c.end)
+-- where the regions of a clause lie
+abbrev pub regions_of : RawClause → CodeClause
+regions_of c = record { kind = Finally; try_start = c.try_start; try_end = c.try_end; start = c.start; end = c.end }
 
-abbrev pub clauses_nest : ℕ → List RawClause → List RawClause → Bool
-clauses_nest n before [] = true
-clauses_nest n before (c ∷ cs) = stands_alone n c && list_all (agree c) before && clauses_nest n (c ∷ before) cs
+-- of a known kind, and in code of so many bytes
+abbrev pub lies_in : ℕ → RawClause → Bool
+lies_in n c = is_known_kind c.kind && nat_le c.try_end n && nat_le c.end n
+
+abbrev pub clauses_nest : ℕ → List RawClause → Bool
+clauses_nest n clauses = list_all (lies_in n) clauses && lie_well (map regions_of clauses)
 
 abbrev pub is_catch : RawClause → Bool
 is_catch c = elim c.kind [ RawCatch t ↦ true | RawFinally ↦ false | RawOther ↦ false ]
@@ -329,11 +296,11 @@ module _ (h : Held) where
 
   abbrev pub code_with : ℕ → ℕ → ℕ → List RawType → List RawClause → Option (Body × Option RawCode)
   code_with start count max_stack locals clauses =
-      checked (nat_le (start + count) (length h.code) && clauses_nest count [] clauses && has_room max_stack clauses)
+      checked (nat_le (start + count) (length h.code) && clauses_nest count clauses && has_room max_stack clauses)
       (Body.Code, Some (record { locals = locals; max_stack = max_stack; clauses = clauses; lines = lines_at start count }))
 
   abbrev pub no_code : ℕ → List RawClause → Body → Option (Body × Option RawCode)
-  no_code count clauses body = checked (nat_eq count 0 && clauses_nest 0 [] clauses) (body, None)
+  no_code count clauses body = checked (nat_eq count 0 && clauses_nest 0 clauses) (body, None)
 
   abbrev pub body_with : ℕ → ℕ → ℕ → ℕ → List RawType → List RawClause → Option (Body × Option RawCode)
   body_with flags start count max_stack locals clauses =

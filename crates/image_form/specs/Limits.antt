@@ -175,7 +175,7 @@ module _ (p : Assembly) (o : Offsets) where
   pub record CodeIn (k : Manner) (c : RawCode) : Type 0 where
     pub some : 0 < length (code_bytes o k c)
     pub locals : LocalsIn p k.has_locals c.locals
-    pub nest : clauses_nest (length (code_bytes o k c)) [] c.clauses ≡ true
+    pub nest : clauses_nest (length (code_bytes o k c)) c.clauses ≡ true
     pub room : has_room c.max_stack c.clauses ≡ true
     pub lines : LinesIn short (words o) 0 k.opcodes c.lines
 

@@ -85,6 +85,8 @@ pub record Line : Type 0 where
 pub data ClauseKind : Type 0 where
   Catch : (class : Id) → ClauseKind
   Final : ClauseKind
+  -- takes no exception and is never entered: a catch whose class names nothing
+  Idle : ClauseKind
 
 -- an exception clause: its kind, and the place at which its handler starts
 pub record Clause : Type 0 where

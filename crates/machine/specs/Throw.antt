@@ -4,7 +4,7 @@ use Rattle.std.specs.Option.{option_map}
 use Rattle.board_types.specs.declared.board.Known.{Known}
 use Rattle.board_types.specs.declared.board.Known.TheVariants.{NullReference}
 use Rattle.machine.specs.Data.{Id, thing_at, end_of, Value, Int, Long, Null, Object, Handle, Pointer, Thing, Instance, Text, Elements, Boxed, StaticCell, Turn, Finally, EndFrame, Slot, Nothing, Caught, Throwing, Leaving, Frame, State, Threw}
-use Rattle.machine.specs.Program.{Program, Clause, ClauseKind, Catch, Final}
+use Rattle.machine.specs.Program.{Program, Clause, ClauseKind, Catch, Final, Idle}
 use Rattle.machine.specs.Numbers.{zero_of}
 
 -- goes on with the value, where there is one
@@ -29,6 +29,7 @@ abbrev pub scanned : Program → Id → ℕ → Bool → ClauseKind → Scan →
 scanned p class k false kind rest = rest
 scanned p class k true Final rest = record { finals = k ∷ rest.finals; catch = rest.catch }
 scanned p class k true (Catch c) rest = if p.is_sub class c then record { finals = []; catch = Some k } else rest
+scanned p class k true Idle rest = rest
 
 -- the clauses from the k-th on, in their order
 abbrev pub scan : Program → Id → ℕ → Id → ℕ → List Clause → Scan
@@ -89,6 +90,7 @@ raise p s known =
 abbrev pub is_final : ClauseKind → Bool
 is_final Final = true
 is_final (Catch c) = false
+is_final Idle = false
 
 -- the finally blocks whose try holds one place and not another
 abbrev pub left : Program → Id → ℕ → ℕ → ℕ → List Clause → List ℕ

@@ -2,7 +2,7 @@
 use Rattle.std.proofs.Common.{◌≡◌, ℕ, zero, suc, ◌<◌, ◌≤◌, Bool, true, false, List, [], ◌∷◌, ◌++◌, map, Option, Some, None, refl, sym, ap, ◌∙◌, subst, arith}
 use Rattle.std.specs.Prelude.{if◌then◌else◌}
 use Rattle.machine.specs.Data.{Id, Frame, Turn, Finally, EndFrame}
-use Rattle.machine.specs.Program.{Program, Method, Clause, ClauseKind, Catch, Final}
+use Rattle.machine.specs.Program.{Program, Method, Clause, ClauseKind, Catch, Final, Idle}
 use Rattle.machine.specs.Throw.{on_some, Scan, scanned, scan, Route, route_of, search_frames}
 use Rattle.machine_rename.specs.Again.{scan_by, after, again, Nested}
 
@@ -49,6 +49,7 @@ module _ (p : Program) where
       by_test : (b : Bool) → test i ≡ b → (kind : ClauseKind) → c.kind ≡ kind → (rest.finals ≡ k ∷ ks → Tail test class all (suc i) k ks rest.catch) → (scanned p class i b kind rest).finals ≡ k ∷ ks → Tail test class all i k ks (scanned p class i b kind rest).catch
       by_test false t kind q ih g = later ih g
       by_test true t (Catch d) q ih g = by_sub (p.is_sub class d) ih g
+      by_test true t Idle q ih g = later ih g
       by_test true t Final q ih g =
           let same : i ≡ k = cc g in
           let finals : rest.finals ≡ ks = cc g in

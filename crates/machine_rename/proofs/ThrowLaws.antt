@@ -7,7 +7,7 @@ use Rattle.std.proofs.lemmas.Option.{slice_get-map}
 use Rattle.board_types.specs.declared.board.Known.{Known}
 use Rattle.board_types.specs.declared.board.Known.TheVariants.{NullReference}
 use Rattle.machine.specs.Data.{Id, end_of, CliType, PlaceType, Plain, To, Cell, Bits, Refers, cell_of, Value, Int, Long, Null, Object, Handle, Pointer, Thing, Instance, Text, Elements, Boxed, StaticCell, Turn, Finally, EndFrame, Slot, Nothing, Caught, Throwing, Leaving, Frame, State}
-use Rattle.machine.specs.Program.{Program, Clause, ClauseKind, Catch, Final}
+use Rattle.machine.specs.Program.{Program, Clause, ClauseKind, Catch, Final, Idle}
 use Rattle.machine.specs.Numbers.{is_long, zero_in, zero_of, zero_place}
 use Rattle.machine.specs.Throw.{goes, Scan, scanned, scan, Route, route_of, search_frames, enter_clause, follow, taken, throw, raise, is_final, left, leave, take_up, thrown_class, throw_thing, throw_value, throw_again, throw_exception}
 use Rattle.machine_rename.specs.Rename.{Renaming, Answers, Asked, type_to, place_type_to, value_to, thing_to, slot_to, frame_to, state_to, method_to, kind_to, clause_to}
@@ -44,11 +44,13 @@ module _ (r : Renaming) where
   is_final_law : (k : ClauseKind) → is_final (kind_to r k) ≡ is_final k
   is_final_law Final = refl
   is_final_law (Catch c) = refl
+  is_final_law Idle = refl
 
 module _ (r : Renaming) (low high : Program) (a : Answers r low high) where
   scanned_law : (class : Id) (k : ℕ) (b : Bool) (kind : ClauseKind) (rest : Scan) → scanned high (r.type class) k b (kind_to r kind) rest ≡ scanned low class k b kind rest
   scanned_law class k false kind rest = refl
   scanned_law class k true Final rest = refl
+  scanned_law class k true Idle rest = refl
   scanned_law class k true (Catch c) rest =
       ap (λ (b : Bool). if b then record { finals = []; catch = Some k } else rest) (a.is_sub class c)
 

@@ -6,7 +6,7 @@ use Rattle.std.proofs.lemmas.Option.{slice_get_within}
 use Rattle.board_types.specs.declared.board.Known.{Known}
 use Rattle.board_types.specs.declared.board.Known.TheVariants.{NullReference}
 use Rattle.machine.specs.Data.{Id, CliType, ClassOf, thing_at, end_of, type_of, Value, Int, Long, Null, Object, Handle, Pointer, Thing, Instance, Text, Elements, Boxed, StaticCell, Turn, Finally, EndFrame, Slot, Caught, Throwing, Leaving, Frame, State}
-use Rattle.machine.specs.Program.{Program, Method, Clause, ClauseKind, Catch, Final}
+use Rattle.machine.specs.Program.{Program, Method, Clause, ClauseKind, Catch, Final, Idle}
 use Rattle.machine.specs.Numbers.{zero_of}
 use Rattle.machine.specs.Throw.{on_some, Scan, scanned, scan, Route as Way, route_of, search_frames, enter_clause, follow, taken, throw, raise, is_final, left, leave, take_up, throw_thing, throw_value, throw_again, throw_exception}
 use Rattle.machine_typed.specs.Typing.{StackType, O, is_number}
@@ -112,6 +112,7 @@ module _ (p : Program) (t : Typing) (a : Accepted p t) where
   final_kind : (k : ClauseKind) → is_final k ≡ true → k ≡ Final
   final_kind Final e = refl
   final_kind (Catch c) e = absurd (cc e)
+  final_kind Idle e = absurd (cc e)
 
   not_true : (b : Bool) → not b ≡ true → b ≡ false
   not_true true e = absurd (cc e)
@@ -189,6 +190,7 @@ module _ (p : Program) (t : Typing) (a : Accepted p t) where
               passed = λ x turns q h. (enters k c running there ok e, ek, (inner e).passed x turns q h);
             }
         by_hold true e (Catch d) ek skip inner = by_sub e d ek (p.is_sub class d) refl skip
+        by_hold true e Idle ek skip inner = skip
 
   -- the search of a running program finds a way, if any, that can be gone
   route_found : (initialiser : Bool) (r : Scan) (o : Option Way) (w : Way) → route_of initialiser r.finals r.catch o ≡ Some w → ((q : ℕ) × (r.catch ≡ Some q) × (w ≡ record { turns = map Finally r.finals; catch = q })) ⊎ ((v : Way) × (r.catch ≡ None) × (o ≡ Some v) × (w ≡ record { turns = map Finally r.finals ++ EndFrame ∷ v.turns; catch = v.catch }))

@@ -5,7 +5,7 @@ use Rattle.board_types.specs.declared.board.Known.{Known}
 use Rattle.plain_types.specs.declared.elem.Elem.{Elem}
 use Rattle.plain_types.specs.declared.elem.Elem.TheVariants as elem
 use Rattle.machine.specs.Data.{Id, CliType, Basic, EnumOf, ClassOf, ValueOf, ArrayOf, PlaceType, Plain, To, Cell, Bits, Refers, cell_of, elem_cell}
-use Rattle.machine.specs.Program.{Program, Method, Body, Code, Native, Missing, Instruction, Branch, BranchIf, BranchCompare, Switch, CallVirtual, NewObject, NewArray, Box, LoadField, StoreField, LoadFieldAddress, Throw, Rethrow, Leave, EndFinally, Return, Initialiser, Line, ClauseKind, Catch, Final, Clause, NativeName, ObjectToString, EnumEquals, EnumToString, ArrayLength, ArrayCopy, StringLength, StringChars, StringConcat, StringSubstring, StringEquals, StringCompare, StringFromChars, StringFromChar, NumberSigned, NumberUnsigned, InitializeArray, DebugPrint}
+use Rattle.machine.specs.Program.{Program, Method, Body, Code, Native, Missing, Instruction, Branch, BranchIf, BranchCompare, Switch, CallVirtual, NewObject, NewArray, Box, LoadField, StoreField, LoadFieldAddress, Throw, Rethrow, Leave, EndFinally, Return, Initialiser, Line, ClauseKind, Catch, Final, Idle, Clause, NativeName, ObjectToString, EnumEquals, EnumToString, ArrayLength, ArrayCopy, StringLength, StringChars, StringConcat, StringSubstring, StringEquals, StringCompare, StringFromChars, StringFromChar, NumberSigned, NumberUnsigned, InitializeArray, DebugPrint}
 use Rattle.machine.specs.Numbers.{same_width}
 use Rattle.machine.specs.Natives.{class_of_type}
 use Rattle.machine.specs.Trace.{strings, is_main_result}
@@ -115,6 +115,7 @@ module _ (p : Program) (t : Typing) where
   abbrev pub Starts : Id → ClauseKind → ℕ → Type 0
   Starts id (Catch class) start = (u : CliType) × (t.types id start ≡ Some (O u ∷ [])) × ((c : Id) → p.is_sub c class ≡ true → p.fits (ClassOf c) u ≡ true)
   Starts id Final start = t.types id start ≡ Some []
+  Starts id Idle start = Unit {0}
 
   -- how the regions of a method lie to one another (44)
   pub record Regions (id : Id) (m : Method) : Type 0 where

@@ -11,7 +11,7 @@ use Rattle.file_tables.specs.File.{FilePart}
 use Rattle.machine.specs.Data.{Id}
 use Rattle.machine.specs.Throw.{on_some}
 use Rattle.classes.specs.Classes.{TypeKind, Reference, Builtin, Enumeration, OtherValue}
-use Rattle.classes.specs.Queries.{basic_name, some_eq, is_instance_kind}
+use Rattle.classes.specs.Queries.{basic_name, some_eq, is_instance_kind, is_integer}
 use Rattle.assemblies.specs.Rows.{RawType, RawSpelt, RawClass, RawValue, RawArray, TypeRow, FieldRow, Assembly, Nowhere}
 use Rattle.assemblies.specs.Binding.{type_in, resolve, range}
 use Rattle.world_rows.specs.Tokens.{class_layouts, field_rvas}
@@ -46,17 +46,6 @@ fields_in ps c = unwrap_or (on_some (slice_get ps c.file) (λ p. option_map (λ 
 
 -- ---- enums
 
-abbrev pub is_integer : Elem → Bool
-is_integer elem.I1 = true
-is_integer elem.U1 = true
-is_integer elem.I2 = true
-is_integer elem.U2 = true
-is_integer elem.I4 = true
-is_integer elem.U4 = true
-is_integer elem.I8 = true
-is_integer elem.U8 = true
-is_integer _ = false
-
 abbrev pub integer_of : RawType → Option Elem
 integer_of (RawSpelt e) = if is_integer e then Some e else None
 integer_of _ = None
@@ -81,13 +70,13 @@ is_enum k ps c = extends k ps c (codes "Enum")
 abbrev pub is_value : ℕ → List Assembly → Id → Bool
 is_value k ps c = is_enum k ps c || (extends k ps c (codes "ValueType") && not (some_eq (Some c) (system_type ps (codes "Enum"))))
 
--- an enum without a number is refused
-abbrev pub enum_kind : Option Elem → TypeKind
-enum_kind (Some e) = Enumeration e
-enum_kind None = OtherValue
+-- an enum without one integer as its instance field is refused, and is void till then
+abbrev pub enum_element : Option Elem → Elem
+enum_element (Some e) = e
+enum_element None = elem.Void
 
 abbrev pub derived_kind : ℕ → List Assembly → Id → TypeKind
-derived_kind k ps c = if is_enum k ps c then enum_kind (number_of ps c) else if is_value k ps c then OtherValue else Reference
+derived_kind k ps c = if is_enum k ps c then Enumeration (enum_element (number_of ps c)) else if is_value k ps c then OtherValue else Reference
 
 abbrev pub kind_by : Option Elem → TypeKind → TypeKind
 kind_by (Some e) kind = Builtin e

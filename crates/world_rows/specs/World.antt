@@ -10,10 +10,19 @@ use Rattle.world_rows.specs.Rows.{assembly_by, alone}
 use Rattle.world_rows.specs.Kinds.{kind_of, data_of}
 use Rattle.world_rows.specs.Natives.{body_of_native}
 
--- no chain of superclasses or of scopes has more
+-- no chain of superclasses, of interfaces or of enclosing types has more
+abbrev pub type_count : List Assembly → ℕ
+type_count [] = 0
+type_count (p ∷ ps) = length p.types + type_count ps
+
+-- nor one of scopes
+abbrev pub reference_count : List Assembly → ℕ
+reference_count [] = 0
+reference_count (p ∷ ps) = length p.refs + reference_count ps
+
+-- enough for a chain of superclasses and then interfaces, and for one of scopes
 abbrev pub size_of : List Assembly → ℕ
-size_of [] = 0
-size_of (p ∷ ps) = length p.types + length p.refs + size_of ps
+size_of ps = type_count ps + type_count ps + reference_count ps
 
 -- among the rows of each file alone
 abbrev pub assembly_with : ℕ → List FilePart → List Assembly → ℕ → FilePart → Assembly

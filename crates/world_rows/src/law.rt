@@ -1,0 +1,19 @@
+//! The laws of names in a world.
+ghost use Rattle.std.specs.Prelude.{◌≡◌, ℕ, List, Option, Some, None, slice_get};
+ghost use Rattle.file_tables.specs.File.{FilePart};
+ghost use Rattle.assemblies.specs.Rows.{TypeToken};
+ghost use Rattle.assemblies.specs.Binding.{resolve, expanded, expanded_signature};
+ghost use Rattle.world_rows.specs.Signatures.{faulty_type, faulty_signature};
+ghost use Rattle.world_rows.specs.World.{rows_alone, assemblies_of};
+
+/// A token names the same class among the assemblies of a world as among the rows of each file alone, by which kinds, natives and the
+/// bytes of data fields are told.
+pub fn names_stay()
+    ensures { (files : List FilePart) (scopes file : ℕ) (token : TypeToken) → resolve scopes (assemblies_of files) file token ≡ resolve scopes (rows_alone files) file token }
+{}
+
+/// A signature that has no form equals none, itself neither: a type of it names nothing.
+pub fn faulty_signatures_equal_none()
+    ensures of_type { (files : List FilePart) (scopes file : ℕ) (x : FilePart) → slice_get files file ≡ Some x → expanded scopes (assemblies_of files) file (faulty_type x.metadata) ≡ None }
+    ensures of_method { (files : List FilePart) (scopes file : ℕ) (x : FilePart) → slice_get files file ≡ Some x → expanded_signature scopes (assemblies_of files) file (faulty_signature x.metadata) ≡ None }
+{}
