@@ -356,30 +356,30 @@ step_stop parts w i left (Some p) inv awake may got = by_do (is_do (act_on w.boa
     by_do false is = inv
 
 -- ---- the tool gets a reply
-matches_number : (q r : Packet) → matches q r ≡ true → r.reply_seq ≡ q.seq
+matches_number : (last : Option ℕ) (q r : Packet) → matches last q r ≡ true → r.reply_seq ≡ q.seq
 unfolding matches
-matches_number q r is =
-    let outer = and_parts ((r.flags == REPLY) && (r.command == q.command)) ((r.reply_seq == q.seq) && answers q r.payload.items) is in
-    eqb-true r.reply_seq q.seq (and_parts (r.reply_seq == q.seq) (answers q r.payload.items) outer.1).0
+matches_number last q r is =
+    let outer = and_parts ((r.flags == REPLY) && (r.command == q.command)) ((r.reply_seq == q.seq) && answers last q r.payload.items) is in
+    eqb-true r.reply_seq q.seq (and_parts (r.reply_seq == q.seq) (answers last q r.payload.items) outer.1).0
 
-awaited_by : (o : Option Packet) (r : Packet) → waiting_matches o r ≡ true → (q : Packet) × (o ≡ Some q) × (r.reply_seq ≡ q.seq)
-awaited_by None r is = absurd (true≢false (sym is))
-awaited_by (Some q) r is = (q, refl, matches_number q r is)
+awaited_by : (last : Option ℕ) (o : Option Packet) (r : Packet) → waiting_matches last o r ≡ true → (q : Packet) × (o ≡ Some q) × (r.reply_seq ≡ q.seq)
+awaited_by last None r is = absurd (true≢false (sym is))
+awaited_by last (Some q) r is = (q, refl, matches_number last q r is)
 
 answered_by : (parts : Parts) (w : World) (r : Packet) (j : ℕ) → Awake parts w → slice_get w.replies j ≡ Some r → is_awaited w.tool.asking r ≡ true → Progress parts w
     → (w.board.last ≡ w.tool.asking.asked) × After parts w.start w.tool r.payload.items w.content
 answered_by parts w r j awake got is (Waits q waiting seq last before) =
-    let asked = awaited_by w.tool.asking.waiting r is in
+    let asked = awaited_by w.tool.asking.last_break w.tool.asking.waiting r is in
     let number : r.reply_seq ≡ w.tool.asking.asked = asked.2 ∙ ap (λ (x : Packet). x.seq) (some_same asked.0 q (sym asked.1 ∙ waiting)) ∙ seq in
     let h = awake.replies j r got in
     absurd (too_late w.tool.asking.asked w.board.last w.board.last (sym last) (subst (λ (n : ℕ). n ≤ w.board.last) number h) refl)
 answered_by parts w r j awake got is (Answered q k waiting seq last kept done) =
-    let asked = awaited_by w.tool.asking.waiting r is in
+    let asked = awaited_by w.tool.asking.last_break w.tool.asking.waiting r is in
     let number : r.reply_seq ≡ w.tool.asking.asked = asked.2 ∙ ap (λ (x : Packet). x.seq) (some_same asked.0 q (sym asked.1 ∙ waiting)) ∙ seq in
     let same : k ≡ r = some_same k r (sym kept ∙ awake.last j r got (number ∙ sym last)) in
     (last, subst (λ (x : Packet). After parts w.start w.tool x.payload.items w.content) same done)
 answered_by parts w r j awake got is (Rests none last settled) =
-    let asked = awaited_by w.tool.asking.waiting r is in
+    let asked = awaited_by w.tool.asking.last_break w.tool.asking.waiting r is in
     absurd (none_packet asked.0 (sym none ∙ asked.1))
   where
     none_packet : (x : Packet) → None ≡ Some x → ⊥

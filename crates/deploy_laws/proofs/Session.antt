@@ -1,5 +1,5 @@
 -- Every event keeps what the laws promise.
-use Rattle.std.proofs.Common.{◌≡◌, ◌⊎◌, ℕ, zero, suc, ◌+◌, ◌-◌, ◌≤◌, Bool, true, false, List, [], ◌∷◌, ◌++◌, length, drop, Option, Some, None, refl, sym, ap, subst, ◌∙◌, inl, inr, arith}
+use Rattle.std.proofs.Common.{◌≡◌, ◌⊎◌, ℕ, ◌+◌, ◌-◌, ◌≤◌, Bool, true, false, List, [], ◌∷◌, ◌++◌, length, drop, Option, Some, None, refl, sym, ap, subst, ◌∙◌, inl, inr, arith}
 use Rattle.std.specs.Prelude.{slice_index, slice_get, if◌then◌else◌, ◌==◌, nat_lt}
 use Rattle.std.proofs.lemmas.Bool.{ne_eqb, true≢false}
 use Rattle.flash_trait.specs.Flash.{Operation, AreBytes, IsStopped}
@@ -14,6 +14,7 @@ use Rattle.deploy_model.specs.Tool.{Work, DeploysAndRuns, OnlyRuns, Goal, Finish
 use Rattle.deploy_model.specs.World.{World}
 use Rattle.deploy_model.specs.Promise.{plan_at, SafeWork, IsFoundNew, content_after, Progressed}
 use Rattle.deploy_laws.proofs.Asked.{asked_back, nth_askable, last_content, through_at, through_stop, through_end}
+use Rattle.deploy_laws.proofs.Counts.{get_outside}
 use Rattle.deploy_laws.proofs.Told.{banks_back}
 use Rattle.deploy_laws.proofs.Whole.{safe_all}
 
@@ -208,11 +209,6 @@ later_on parts start t payload content (Fetches end) none later is settled =
 later_on parts start t payload content (Closes end) none later is settled = rests parts start t HasRun end content none (Steadily settled)
 later_on parts start t payload content (IsOver finish end) none later is settled = (refl, inr (record { waiting = none; now = refl; settled = Steadily settled }))
 
-get_outside : {X : Type 0} (xs : List X) (i : ℕ) → slice_get xs i ≡ None → length xs ≤ i
-get_outside [] i is = omega arith
-get_outside (y ∷ ys) zero is = absurd (cc)
-get_outside (y ∷ ys) (suc i) is = let h = get_outside ys i is in omega arith
-
 -- ---- a deployment goes on
 pub some_same : {X : Type 0} (x y : X) → Some x ≡ Some y → x ≡ y
 some_same x y e = cc
@@ -240,7 +236,7 @@ nth_on parts start t set d i content (Some op) none work can same_set count plan
 not_failed : (x : ℕ) (b : Bool) → (x == FLASH_FAILED) ≡ b → x ≡ DONE → b ≡ false
 not_failed x b is done = sym is ∙ ap (λ (n : ℕ). n == FLASH_FAILED) done
 
-target_small : (b : Banks) → (plan_for b).target ≤ 1
+pub target_small : (b : Banks) → (plan_for b).target ≤ 1
 target_small b = by_kind (b.kind == 0) (b.kind == 3)
   where
     by_kind : (x y : Bool) → (if x then 0 else (if y then 1 - b.bank else 1)) ≤ 1

@@ -59,15 +59,15 @@ pub fn scripts_can_happen()
 
 /// The board's replies to a deployment's requests are those that the tool waits for.
 pub fn replies_match()
-    ensures operation { (p : Packet) (op : Operation) → operation_asked p ≡ Some op →
-        (matches p (reply_to p (DONE ∷ [])) ≡ true) × (matches p (reply_to p (FLASH_FAILED ∷ [])) ≡ true) }
-    ensures banks { (f : Format) (content : List ℕ) (p : Packet) → AreBytes content → p.command ≡ BANKS →
-        matches p (reply_to p (DONE ∷ banks_bytes (banks f content))) ≡ true }
+    ensures operation { (last : Option ℕ) (p : Packet) (op : Operation) → operation_asked p ≡ Some op →
+        (matches last p (reply_to p (DONE ∷ [])) ≡ true) × (matches last p (reply_to p (FLASH_FAILED ∷ [])) ≡ true) }
+    ensures banks { (f : Format) (content : List ℕ) (last : Option ℕ) (p : Packet) → AreBytes content → p.command ≡ BANKS →
+        matches last p (reply_to p (DONE ∷ banks_bytes (banks f content))) ≡ true }
 {}
 
 /// A reply that the tool waited for, other than want of memory, is one that a deployment can take.
 pub fn awaited_can_be_taken()
-    ensures { (d : Deploying) (request reply : Packet) → matches request reply ≡ true → 1 ≤ d.asked → (d.asked ≡ 2 → request.command ≡ BANKS) →
+    ensures { (d : Deploying) (last : Option ℕ) (request reply : Packet) → matches last request reply ≡ true → 1 ≤ d.asked → (d.asked ≡ 2 → request.command ≡ BANKS) →
         (slice_index reply.payload.items 0 ≡ NO_MEMORY → ⊥) → CanTake d reply.payload.items }
 {}
 
