@@ -85,7 +85,7 @@ act_next a kept command payload small =
     ap (λ (b : Bool). if b then Do else (if (a.asked + 1 == a.asked) && nat_lt 0 a.asked then Resend else Ignore))
     (and_from (a.asked + 1 == a.asked + 1) (nat_lt a.asked LAST_SEQ) (eq-eqb (a.asked + 1) (a.asked + 1) refl) (lt-ltb a.asked LAST_SEQ small))
 
-abbrev turn_by : Parts → Scene → Tool → Stage → ℕ → List ℕ → Did → Tool → Type 0
+abbrev pub turn_by : Parts → Scene → Tool → Stage → ℕ → List ℕ → Did → Tool → Type 0
 turn_by parts s t stage command payload made tool =
     honest_turn parts (world_at s t.asking.asked (asks t stage command payload)) ≡ world_at (scene_after s (next_request t.asking command payload) made) (t.asking.asked + 1) tool
 
@@ -108,7 +108,7 @@ turn_is parts s t stage command payload small match_it =
     else done_world) match_it
 
 -- by what the request comes to and what the tool makes of its reply
-turn_goes : (parts : Parts) (s : Scene) (t : Tool) (stage : Stage) (command : ℕ) (payload : List ℕ) (made : Did) (tool : Tool) → t.asking.asked < 65535
+pub turn_goes : (parts : Parts) (s : Scene) (t : Tool) (stage : Stage) (command : ℕ) (payload : List ℕ) (made : Did) (tool : Tool) → t.asking.asked < 65535
     → does parts s.content s.text (next_request t.asking command payload) Works ≡ made
     → matches (break_after t.asking.last_break command payload) (next_request t.asking command payload) (reply_to (next_request t.asking command payload) made.payload) ≡ true
     → advanced (answered t stage command payload) made.payload ≡ tool

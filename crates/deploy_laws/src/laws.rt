@@ -12,8 +12,8 @@ ghost use Rattle.deploy_model.specs.Deployment.{Deploying, CanTake, banks, banks
 ghost use Rattle.deploy_model.specs.Moments.{Through, IsDeployable, Safe, IsKept};
 ghost use Rattle.deploy_model.specs.Board.{Parts, operation_asked, reply_to};
 ghost use Rattle.deploy_model.specs.World.{World, Event, run, ArePossible, asleep, begins};
-ghost use Rattle.deploy_model.specs.Tool.{Goal, DeploysAndRuns};
-ghost use Rattle.deploy_model.specs.Play.{play, playing, honest};
+ghost use Rattle.deploy_model.specs.Tool.{Goal, DeploysAndRuns, OnlyRuns};
+ghost use Rattle.deploy_model.specs.Play.{play, playing, honest, ended, CanRun, HasTheRun, fetch_count};
 ghost use Rattle.wire_session.specs.declared.net.Item.{Item};
 ghost use Rattle.flash_trait.specs.declared.flash.Stop.{Stop};
 ghost use Rattle.deploy_model.specs.Promise.{IsSound, SafeWork};
@@ -72,13 +72,21 @@ pub fn awaited_can_be_taken()
 {}
 
 /// Over a network that delivers what is sent, and a flash that doesn't fail, a session deploys its set: in two turns and
-/// one for each operation it is told as done, and it is what is found.
+/// one for each operation it is told as done, and it is what is found. Then its run is asked for, its text is fetched,
+/// and the session is closed. A session that only runs needs one turn in the place of those.
 pub fn honest_networks_deploy()
-    ensures { (parts : Parts) (goal : Goal) (set content : List ℕ) → IsFormat parts.format → IsDeployable parts.format set → length content ≡ 262144 → AreBytes content →
+    ensures deploys { (parts : Parts) (goal : Goal) (set content : List ℕ) → IsFormat parts.format → IsDeployable parts.format set → length content ≡ 262144 → AreBytes content →
         is_spent (banks parts.format content) ≡ false → goal.work ≡ DeploysAndRuns set →
         let plan = plan_for (banks parts.format content) in
         let w = honest parts (suc (suc (length (operations plan set)))) (begins (asleep content) goal) in
         (w.tool.told ≡ true) × (found parts.format w.content ≡ set_in parts.format plan.target set) }
+    ensures runs { (parts : Parts) (goal : Goal) (set content : List ℕ) → IsDeployable parts.format set → AreBytes content →
+        is_spent (banks parts.format content) ≡ false → goal.work ≡ DeploysAndRuns set →
+        let ops = operations (plan_for (banks parts.format content)) set in
+        let deployed = after_all ops content in CanRun parts goal deployed →
+        HasTheRun parts goal deployed (honest parts (suc (suc (length ops)) + (2 + fetch_count (ended parts goal deployed).text)) (begins (asleep content) goal)) }
+    ensures only_runs { (parts : Parts) (goal : Goal) (content : List ℕ) → goal.work ≡ OnlyRuns → CanRun parts goal content →
+        HasTheRun parts goal content (honest parts (1 + (2 + fetch_count (ended parts goal content).text)) (begins (asleep content) goal)) }
 {}
 
 /// Images that are written one after the other into a bank, at most 32 of them and one with an entry, are found there.
