@@ -92,7 +92,7 @@ do_test true false true is = absurd (cc)
 do_test true false false is = absurd (cc)
 do_test false c d is = absurd (cc)
 
-do_next : (a : Answering) (p : Packet) → act_on a p ≡ Do → p.seq ≡ a.last + 1
+pub do_next : (a : Answering) (p : Packet) → act_on a p ≡ Do → p.seq ≡ a.last + 1
 do_next a p is =
     eqb-true p.seq (a.last + 1) (and_parts (p.seq == a.last + 1) (nat_lt a.last LAST_SEQ) (do_test (p.flags == REQUEST) ((p.seq == a.last + 1) && nat_lt a.last LAST_SEQ) ((p.seq == a.last) && nat_lt 0 a.last) is)).0
 

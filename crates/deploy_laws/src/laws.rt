@@ -1,18 +1,20 @@
 //! Laws of the deployment. Each function does nothing: its contract is the law.
 
 ghost use Rattle.std.specs.Prelude.{◌≡◌, ◌≤◌, ◌==◌, ◌+◌, ◌-◌, ◌⊎◌, ℕ, suc, List, [], ◌∷◌, length, true, false, slice_index, slice_get, Option, Some};
+ghost use Rattle.std.specs.List.{range_with_len};
 ghost use Rattle.flash_trait.specs.Flash.{Operation, AreBytes, IsStopped};
 ghost use Rattle.wire_packets.specs.declared.packet.Packet.{Packet};
 ghost use Rattle.wire_session.specs.declared.act.Act.TheVariants.{Do};
 ghost use Rattle.wire_packets.specs.declared.command.TheConstants.{BANKS, DONE, FLASH_FAILED, NO_MEMORY};
 ghost use Rattle.wire_session.specs.Replies.{matches};
 ghost use Rattle.wire_session.specs.Answering.{act_on};
-ghost use Rattle.deploy_model.specs.Banks.{Format, IsFormat, found, set_in, locate, ROOM, BODY, base, MOST_IMAGES, AreImages, joined, images_at, entries, WholeSet};
-ghost use Rattle.deploy_model.specs.Deployment.{Deploying, CanTake, banks, banks_bytes, plan_for, is_spent, operations, after_all};
+ghost use Rattle.deploy_model.specs.Banks.{Format, placed, IsFormat, found, set_in, locate, ROOM, BODY, base, MOST_IMAGES, AreImages, joined, images_at, entries, WholeSet};
+ghost use Rattle.deploy_model.specs.Deployment.{Deploying, given_way, CanTake, banks, banks_bytes, plan_for, is_spent, operations, after_all};
 ghost use Rattle.deploy_model.specs.Moments.{Through, IsDeployable, Safe, IsKept};
 ghost use Rattle.deploy_model.specs.Board.{Parts, operation_asked, reply_to};
 ghost use Rattle.deploy_model.specs.World.{World, Event, run, ArePossible, asleep, begins};
 ghost use Rattle.deploy_model.specs.Tool.{Goal, DeploysAndRuns, OnlyRuns};
+ghost use Rattle.deploy_model.specs.Numbers.{numbers_of};
 ghost use Rattle.deploy_model.specs.Play.{play, playing, honest, ended, CanRun, HasTheRun, fetch_count};
 ghost use Rattle.wire_session.specs.declared.net.Item.{Item};
 ghost use Rattle.flash_trait.specs.declared.flash.Stop.{Stop};
@@ -35,11 +37,28 @@ pub fn kept_by_operations()
         Through (IsKept start set (plan_for (banks f start)) ((locate f start).kind == 2)) (operations (plan_for (banks f start)) set) start }
 {}
 
+/// The content after the last operation of a deployment: the start's, with the set and its number placed in the target
+/// bank. Where the start has a set of the format before that ends behind bank 0, its first eight bytes are zeros too.
+pub fn sets_are_placed()
+    ensures { (f : Format) (set start : List ℕ) → length set ≤ ROOM → AreBytes set → length start ≡ 262144 →
+        let plan = plan_for (banks f start) in
+        after_all (operations plan set) start ≡ placed (given_way ((locate f start).kind == 2) start) plan.target plan.number set }
+{}
+
 /// Whatever packets are lost, repeated or reordered, wherever the power stops and operations fail, and through any
 /// number of sessions and sets: the world is sound.
 pub fn sound_worlds()
     ensures { (parts : Parts) (content : List ℕ) (events : List Event) → IsFormat parts.format → length content ≡ 262144 → AreBytes content →
         ArePossible parts (asleep content) events → IsSound parts (run parts events (asleep content)) }
+{}
+
+/// The board does the requests of a session by their numbers, 1, 2, 3 and so on, up to the one in which the power stops:
+/// so none is done twice. While the power is on, the last of them is the board's last number.
+pub fn numbers_in_order()
+    ensures order { (parts : Parts) (content : List ℕ) (events : List Event) →
+        let done = numbers_of parts events (asleep content) [] in done ≡ range_with_len 1 (length done) }
+    ensures last { (parts : Parts) (content : List ℕ) (events : List Event) →
+        let w = run parts events (asleep content) in w.on ≡ true → length (numbers_of parts events (asleep content) []) ≡ w.board.last }
 {}
 
 /// The contents that a stop inside an operation may leave, for the moments of a flash: where the board does a request,
