@@ -119,7 +119,7 @@ some_does : (parts : Parts) (content text : List ℕ) (p : Packet) (outcome : Ou
 unfolding does
 some_does parts content text p outcome op is = ap (λ (o : Option Operation). did_asked parts content text p outcome o) is
 
-banks_none : (p : Packet) → p.command ≡ BANKS → operation_asked p ≡ None
+pub banks_none : (p : Packet) → p.command ≡ BANKS → operation_asked p ≡ None
 unfolding operation_asked
 banks_none p is = ap (λ (n : ℕ). if n == PROGRAM then program_asked p.payload.items else (if n == ERASE then erase_asked p.payload.items else None)) is
 
@@ -191,7 +191,7 @@ too_late : (a b c : ℕ) → a ≡ b + 1 → a ≤ c → b ≡ c → ⊥
 too_late a b c e low same = omega arith
 
 -- the request that is done is the open one
-is_open : (parts : Parts) (w : World) (i : ℕ) (p : Packet) → Awake parts w → act_on w.board p ≡ Do → slice_get w.requests i ≡ Some p
+pub is_open : (parts : Parts) (w : World) (i : ℕ) (p : Packet) → Awake parts w → act_on w.board p ≡ Do → slice_get w.requests i ≡ Some p
     → (w.tool.asking.waiting ≡ Some p) × (p.seq ≡ w.tool.asking.asked) × (w.board.last + 1 ≡ w.tool.asking.asked) × Before parts w.start w.tool p w.content
 is_open parts w i p awake act got = by_progress awake.progress
   where
@@ -309,7 +309,7 @@ step_send parts w inv awake = by_waiting w.tool.asking.waiting refl
         })
 
 -- ---- the power stops
-none_some_op : (op : Operation) → None ≡ Some op → ⊥
+pub none_some_op : (op : Operation) → None ≡ Some op → ⊥
 none_some_op op e = absurd (cc)
 
 op_same : (a b : Operation) → Some a ≡ Some b → a ≡ b
@@ -326,7 +326,7 @@ stop_in parts w p op left is stopped (AtOperation set d i o work can stage same_
     (settled_safe parts w.start w.tool.goal.work w.tool.told (i + 3) left (Broken set i o work can untold refl nth at), AfterFailed set i o work nth at)
 stop_in parts w p op left is stopped (Later later none done next steady) = absurd (none_some_op op (sym none ∙ is))
 
-act_do : (a : Act) → is_do a ≡ true → a ≡ Do
+pub act_do : (a : Act) → is_do a ≡ true → a ≡ Do
 act_do Do is = refl
 act_do Resend is = absurd (true≢false (sym is))
 act_do Ignore is = absurd (true≢false (sym is))
@@ -470,7 +470,7 @@ step_begin parts w g OnlyRuns is size bytes fits =
     (Later tt (no_open (blank g) []) 0 refl (Unwritten is refl refl))
 
 -- ---- every event
-step : (parts : Parts) (w : World) (e : Event) → IsFormat parts.format → Inv parts w → IsPossible parts w e → Inv parts (happens parts w e)
+pub step : (parts : Parts) (w : World) (e : Event) → IsFormat parts.format → Inv parts w → IsPossible parts w e → Inv parts (happens parts w e)
 unfolding happens
 step parts w Send format inv possible = by_power w.on refl
   where
@@ -499,7 +499,7 @@ runs : (parts : Parts) (es : List Event) (w : World) → IsFormat parts.format �
 runs parts [] w format inv possible = inv
 runs parts (e ∷ es) w format inv possible = runs parts es (happens parts w e) format (step parts w e format inv possible.0) possible.1
 
-asleep_inv : (parts : Parts) (content : List ℕ) → length content ≡ 262144 → AreBytes content → Inv parts (asleep content)
+pub asleep_inv : (parts : Parts) (content : List ℕ) → length content ≡ 262144 → AreBytes content → Inv parts (asleep content)
 asleep_inv parts content size bytes =
     record {
       size = size;

@@ -112,7 +112,7 @@ pub open_match : (last : Option ℕ) (p : Packet) → p.command ≡ OPEN → mat
 open_match last p is = matches_by last p (DONE ∷ flash_shape) (open_answers last p is)
 
 -- ---- what a matching reply has
-matches_answers : (last : Option ℕ) (p r : Packet) → matches last p r ≡ true → answers last p r.payload.items ≡ true
+pub matches_answers : (last : Option ℕ) (p r : Packet) → matches last p r ≡ true → answers last p r.payload.items ≡ true
 unfolding matches
 matches_answers last p r is =
     let outer = and_parts ((r.flags == REPLY) && (r.command == p.command)) ((r.reply_seq == p.seq) && answers last p r.payload.items) is in

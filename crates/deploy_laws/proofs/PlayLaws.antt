@@ -41,14 +41,14 @@ with_stop parts start p stop stopped so = record { led = so.led; possible = so.p
 some_same : {X : Type 0} (x y : X) → Some x ≡ Some y → x ≡ y
 some_same x y e = cc
 
-due_asked : (w : World) (p : Packet) (op : Operation) → due_operation w p ≡ Some op → operation_asked p ≡ Some op
+pub due_asked : (w : World) (p : Packet) (op : Operation) → due_operation w p ≡ Some op → operation_asked p ≡ Some op
 due_asked w p op is = by (is_do (act_on w.board p)) is
   where
     by : (b : Bool) → (if b then operation_asked p else None) ≡ Some op → operation_asked p ≡ Some op
     by true e = e
     by false e = absurd (cc)
 
-may_cut : (w : World) (i : ℕ) (p : Packet) (op : Operation) (mask : List ℕ) → slice_get w.requests i ≡ Some p → operation_asked p ≡ Some op → MayLeave w i (cut op mask w.content)
+pub may_cut : (w : World) (i : ℕ) (p : Packet) (op : Operation) (mask : List ℕ) → slice_get w.requests i ≡ Some p → operation_asked p ≡ Some op → MayLeave w i (cut op mask w.content)
 may_cut w i p op mask got asked q got_q other asked_other =
     let same : p ≡ q = some_same p q (sym got ∙ got_q) in
     let op_same : op ≡ other = some_same op other (sym asked ∙ ap operation_asked same ∙ asked_other) in

@@ -135,7 +135,7 @@ at_back : (end : List ℕ) (k : ℕ) → k < 2 ^ 32 → number 4 0 (fetch_payloa
 unfolding number
 at_back end k small = little_number-reads_back 4 k (little_bytes 4 (min PIECE (text_length end - k))) small
 
-size_back : (end : List ℕ) (k : ℕ) → min PIECE (text_length end - k) < 2 ^ 32 → number 4 4 (fetch_payload end k) ≡ min PIECE (text_length end - k)
+pub size_back : (end : List ℕ) (k : ℕ) → min PIECE (text_length end - k) < 2 ^ 32 → number 4 4 (fetch_payload end k) ≡ min PIECE (text_length end - k)
 unfolding number
 size_back end k small = little_number-reads_back 4 (min PIECE (text_length end - k)) [] small
 

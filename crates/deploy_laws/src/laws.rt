@@ -1,6 +1,6 @@
 //! Laws of the deployment. Each function does nothing: its contract is the law.
 
-ghost use Rattle.std.specs.Prelude.{◌≡◌, ◌≤◌, ◌==◌, ◌+◌, ◌-◌, ◌⊎◌, ℕ, suc, List, [], ◌∷◌, length, true, false, slice_index, slice_get, Option, Some};
+ghost use Rattle.std.specs.Prelude.{◌≡◌, ◌≤◌, ◌<◌, ◌==◌, ◌+◌, ◌-◌, ◌⊎◌, ℕ, suc, List, [], ◌∷◌, length, true, false, slice_index, slice_get, Option, Some};
 ghost use Rattle.std.specs.List.{range_with_len};
 ghost use Rattle.flash_trait.specs.Flash.{Operation, AreBytes, IsStopped};
 ghost use Rattle.wire_packets.specs.declared.packet.Packet.{Packet};
@@ -12,9 +12,9 @@ ghost use Rattle.deploy_model.specs.Banks.{Format, placed, IsFormat, found, set_
 ghost use Rattle.deploy_model.specs.Deployment.{Deploying, given_way, CanTake, banks, banks_bytes, plan_for, is_spent, operations, after_all};
 ghost use Rattle.deploy_model.specs.Moments.{Through, IsDeployable, Safe, IsKept};
 ghost use Rattle.deploy_model.specs.Board.{Parts, operation_asked, reply_to};
-ghost use Rattle.deploy_model.specs.World.{World, Event, run, ArePossible, asleep, begins};
+ghost use Rattle.deploy_model.specs.World.{World, Event, run, ArePossible, FitsWork, asleep, begins};
 ghost use Rattle.deploy_model.specs.Tool.{Goal, DeploysAndRuns, OnlyRuns};
-ghost use Rattle.deploy_model.specs.Numbers.{numbers_of};
+ghost use Rattle.deploy_model.specs.Numbers.{numbers_of, MOST_REQUESTS, ENOUGH_TURNS};
 ghost use Rattle.deploy_model.specs.Play.{play, playing, honest, ended, CanRun, HasTheRun, fetch_count};
 ghost use Rattle.wire_session.specs.declared.net.Item.{Item};
 ghost use Rattle.flash_trait.specs.declared.flash.Stop.{Stop};
@@ -61,6 +61,13 @@ pub fn numbers_in_order()
         let w = run parts events (asleep content) in w.on ≡ true → length (numbers_of parts events (asleep content) []) ≡ w.board.last }
 {}
 
+/// A session asks fewer than 5,000 requests, whatever happens: Open, Banks and at most 140 operations, Run, the pieces of
+/// a text, and Close.
+pub fn numbers_are_few()
+    ensures { (parts : Parts) (content : List ℕ) (events : List Event) → ArePossible parts (asleep content) events →
+        (run parts events (asleep content)).tool.asking.asked < MOST_REQUESTS }
+{}
+
 /// The contents that a stop inside an operation may leave, for the moments of a flash: where the board does a request,
 /// each is safe.
 pub fn safe_stops()
@@ -74,6 +81,14 @@ pub fn safe_stops()
 pub fn scripts_can_happen()
     ensures { (parts : Parts) (w : World) (turns : ℕ) (script : List Item) (stop : Option Stop) →
         let p = play parts turns 0 script (playing w stop) in (run parts p.events w ≡ p.world) × ArePossible parts w p.events }
+{}
+
+/// The turns of a script suffice: a request takes at most eight, and a session asks fewer than 5,000. So with 40,000 turns
+/// a play comes to its end, and more turns change nothing.
+pub fn turns_suffice()
+    ensures { (parts : Parts) (goal : Goal) (content : List ℕ) (script : List Item) (stop : Option Stop) (turns more : ℕ) →
+        IsFormat parts.format → length content ≡ 262144 → AreBytes content → FitsWork parts goal.work → ENOUGH_TURNS ≤ turns → ENOUGH_TURNS ≤ more →
+        play parts turns 0 script (playing (begins (asleep content) goal) stop) ≡ play parts more 0 script (playing (begins (asleep content) goal) stop) }
 {}
 
 /// The board's replies to a deployment's requests are those that the tool waits for.
