@@ -65,6 +65,10 @@ PIECE = 1016
 abbrev pub eight_zeros : List ℕ
 eight_zeros = 0 ∷ 0 ∷ 0 ∷ 0 ∷ 0 ∷ 0 ∷ 0 ∷ 0 ∷ []
 
+-- a content whose first eight bytes are zeroed, where a set of the format before that ends behind bank 0 gives way
+abbrev pub given_way : Bool → List ℕ → List ℕ
+given_way late content = if late then eight_zeros ++ drop 8 content else content
+
 abbrev pub zeroings : Plan → List Operation
 zeroings p = (if p.front then Program 0 eight_zeros ∷ [] else []) ++ (if p.back then Program (base 1) eight_zeros ∷ [] else [])
 

@@ -1,6 +1,6 @@
 -- The events that a script of the network and a stop stand for. The lists of the network are those of the world, so the
 -- script's turns alone are kept beside it.
-use Rattle.std.specs.Prelude.{ℕ, zero, suc, ◌+◌, ◌-◌, ◌==◌, ◌||◌, Bool, true, false, nat_le, if◌then◌else◌, List, [], ◌∷◌, ◌++◌, length, slice_get, Option, Some, None, is_none}
+use Rattle.std.specs.Prelude.{◌≡◌, ◌≤◌, ◌<◌, ℕ, zero, suc, ◌+◌, ◌-◌, ◌/◌, ◌^◌, ◌==◌, ◌||◌, Bool, true, false, nat_le, if◌then◌else◌, List, [], ◌∷◌, ◌++◌, length, slice_get, Option, Some, None, is_none}
 use Rattle.flash_trait.specs.Flash.{Operation, cut}
 use Rattle.flash_trait.specs.FlashCalls.{counted}
 use Rattle.flash_trait.specs.declared.flash.Stop as armed
@@ -10,8 +10,12 @@ use Rattle.wire_session.specs.Script.{turn_of, script_after}
 use Rattle.wire_session.specs.declared.net.Item.{Item}
 use Rattle.wire_session.specs.declared.delivery.Planned.{Planned}
 use Rattle.wire_session.specs.declared.delivery.Planned.TheVariants.{Request, Reply, NewestRequest, NewestReply}
-use Rattle.deploy_model.specs.Board.{Parts, Works, operation_asked}
-use Rattle.deploy_model.specs.Tool.{Goal, OnlyRuns}
+use Rattle.wire_packets.specs.declared.command.TheConstants.{DONE}
+use Rattle.wire_packets.specs.declared.payload.TheConstants.{MAX_TEXT}
+use Rattle.wire_session.specs.Replies.{numbers_fit}
+use Rattle.deploy_model.specs.Board.{Parts, Ended, Works, MOST_CELLS, end_bytes, operation_asked}
+use Rattle.deploy_model.specs.Deployment.{PIECE}
+use Rattle.deploy_model.specs.Tool.{Goal, OnlyRuns, IsOver, HasRun}
 use Rattle.deploy_model.specs.World.{World, Event, Send, ToBoard, Stop, ToTool, Begin, happens}
 
 pub record Playing : Type 0 where
@@ -86,3 +90,29 @@ honest_turn parts w = happens parts (happens parts (happens parts w Send) (ToBoa
 abbrev pub honest : Parts → ℕ → World → World
 honest parts zero w = w
 honest parts (suc n) w = honest parts n (honest_turn parts w)
+
+-- how a content ends by the run that a session asks for
+abbrev pub ended : Parts → Goal → List ℕ → Ended
+ended parts g content = parts.runs content g.steps g.cells
+
+-- a run that a request can ask for, and an end that a reply can tell
+pub record CanRun (parts : Parts) (g : Goal) (content : List ℕ) : Type 0 where
+  pub steps : g.steps < 2 ^ 64
+  pub some_cells : 1 ≤ g.cells
+  pub few_cells : g.cells ≤ MOST_CELLS
+  pub first : (ended parts g content).a < 2 ^ 32
+  pub second : (ended parts g content).b < 2 ^ 32
+  pub third : (ended parts g content).c < 2 ^ 32
+  pub fit : numbers_fit (ended parts g content).kind (ended parts g content).a (ended parts g content).b (ended parts g content).c ≡ true
+  pub text : length (ended parts g content).text ≤ MAX_TEXT
+
+-- how many requests fetch a text
+abbrev pub fetch_count : List ℕ → ℕ
+fetch_count text = (length text + (PIECE - 1)) / PIECE
+
+-- the session is over, and has the end of the content's run and its whole text
+pub record HasTheRun (parts : Parts) (g : Goal) (deployed : List ℕ) (w : World) : Type 0 where
+  pub content : w.content ≡ deployed
+  pub over : w.tool.stage ≡ IsOver HasRun (DONE ∷ end_bytes (ended parts g deployed))
+  pub text : w.tool.got ≡ (ended parts g deployed).text
+  pub rests : w.tool.asking.waiting ≡ None

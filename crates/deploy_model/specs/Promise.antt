@@ -1,5 +1,5 @@
 -- What the deployment's laws promise of a world.
-use Rattle.std.specs.Prelude.{◌≡◌, ◌+◌, ◌≤◌, ℕ, true, List, take, Some, slice_get}
+use Rattle.std.specs.Prelude.{◌≡◌, ◌+◌, ◌-◌, ◌≤◌, ℕ, true, List, take, Some, slice_get}
 use Rattle.flash_trait.specs.Flash.{Operation, IsStopped}
 use Rattle.deploy_model.specs.Banks.{found, set_in}
 use Rattle.deploy_model.specs.Deployment.{Plan, plan_for, banks, operations, after_all}
@@ -26,6 +26,18 @@ IsFoundNew parts OnlyRuns start content = ⊥
 abbrev pub content_after : Parts → List ℕ → List ℕ → ℕ → List ℕ
 content_after parts set start i = after_all (take i (operations (plan_at parts start) set)) start
 
+-- the content after so many requests of a session, of which the first two of a deployment are Open and Banks
+abbrev pub content_by : Parts → Work → List ℕ → ℕ → List ℕ
+content_by parts (DeploysAndRuns set) start done = content_after parts set start (done - 2)
+content_by parts OnlyRuns start done = start
+
+-- the content is the one after the operations of the requests that the board did, each once and in order; the last of
+-- them may have failed
+pub data IsDoneBy (parts : Parts) (w : World) : Type 0 where
+  AllDone : w.content ≡ content_by parts w.tool.goal.work w.start w.board.last → IsDoneBy parts w
+  LastFailed : (set : List ℕ) (i : ℕ) (op : Operation) → w.tool.goal.work ≡ DeploysAndRuns set → w.board.last ≡ i + 3 → slice_get (operations (plan_at parts w.start) set) i ≡ Some op
+      → IsStopped op (content_after parts set w.start i) w.content → IsDoneBy parts w
+
 -- the content is that of the start, or the one after the first operations, of which the last may have failed
 pub data Progressed (parts : Parts) (w : World) : Type 0 where
   Untouched : w.content ≡ w.start → Progressed parts w
@@ -41,5 +53,6 @@ pub record IsSound (parts : Parts) (w : World) : Type 0 where
   -- while the power is on: the board's last number is the tool's, or one less
   pub no_more : w.on ≡ true → w.board.last ≤ w.tool.asking.asked
   pub one_less : w.on ≡ true → w.tool.asking.asked ≤ w.board.last + 1
+  pub done : w.on ≡ true → IsDoneBy parts w
   -- a deployment is told as done only where its set is found
   pub told : w.on ≡ true → w.tool.told ≡ true → IsFoundNew parts w.tool.goal.work w.start w.content

@@ -67,12 +67,13 @@ abbrev pub stops : World → List ℕ → Option Packet → World
 stops w left None = w
 stops w left (Some p) = if is_do (act_on w.board p) then cut_off w left (operation_asked p) else w
 
+abbrev pub takes_reply : World → Packet → World
+takes_reply w r =
+    record { content = w.content; on = w.on; board = w.board; text = w.text; tool = takes w.tool r; requests = w.requests; replies = w.replies; start = w.start }
+
 abbrev pub to_tool : World → Option Packet → World
 to_tool w None = w
-to_tool w (Some r) =
-    if is_awaited w.tool.asking r
-    then record { content = w.content; on = w.on; board = w.board; text = w.text; tool = takes w.tool r; requests = w.requests; replies = w.replies; start = w.start }
-    else w
+to_tool w (Some r) = if is_awaited w.tool.asking r then takes_reply w r else w
 
 abbrev pub begins : World → Goal → World
 begins w g =

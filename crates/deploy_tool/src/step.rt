@@ -10,20 +10,23 @@ use arrayvec::ArrayVec;
 use byteorder::{ByteOrder, LittleEndian};
 use wire_packets::command::{ERASE, PROGRAM};
 use wire_packets::packet::MAX_PAYLOAD;
+use wire_packets::payload::MAX_PIECE;
 
-/// What a deployment comes to next.
+/// What a deployment comes to next. Behind another step than `Ask` it asks nothing more.
 #[derive(Debug, Drop)]
 pub enum Step {
-    /// This is to be asked.
+    /// This is to be asked: a command and the payload of its request.
     Ask {
         command: u32,
         payload: ArrayVec<u8, MAX_PAYLOAD>,
     },
-    /// The set stands in its bank.
+    /// The set stands whole in its bank, with its number and marker. This comes exactly at the reply to the last
+    /// operation, the program of the marker, where its status is 0.
     Deployed,
-    /// The flash failed.
+    /// The flash failed: the last request's reply has status 2.
     Failed,
-    /// No number follows that of the set that was found.
+    /// The set that was found has the number 4,294,967,295, which no number follows. This comes at the reply to Banks
+    /// alone, and nothing was written.
     SequenceSpent,
 }
 
@@ -37,9 +40,9 @@ pub(crate) fn ask_plain(command: u32) -> Step
     }
 }
 
-/// The request of a program.
+/// The request that programs bytes at a place.
 pub(crate) fn ask_program(at: u32, bytes: &[u8]) -> Step
-    requires { length bytes.now ≤ 1016 }
+    requires { length bytes.now ≤ MAX_PIECE }
     ensures { next_view result ≡ Asks (command_of (Program at bytes.now)) (payload_of (Program at bytes.now)) }
 {
     let mut place = [0u8; 4];
@@ -53,7 +56,7 @@ pub(crate) fn ask_program(at: u32, bytes: &[u8]) -> Step
     }
 }
 
-/// The request of an erase.
+/// The request that erases a sector.
 pub(crate) fn ask_erase(sector: u32) -> Step
     ensures { next_view result ≡ Asks (command_of (Erase sector)) (payload_of (Erase sector)) }
 {

@@ -24,6 +24,24 @@ pub const CLOSE: u32 = 7;
 /// Asks which set the flash holds and in which bank, and which markers stand.
 pub const BANKS: u32 = 8;
 
+/// Asks for the board's epoch, over datagrams. Its number is 0, and the reply's number is 0.
+pub const HELLO: u32 = 9;
+
+/// Boots what the flash holds and gets its run ready, as [`RUN`] does, but no instruction is done.
+pub const START: u32 = 16;
+
+/// Tells the place at which a started run is to stop, or that it isn't to stop.
+pub const BREAK: u32 = 17;
+
+/// Lets a started run go on to its next stop or its end.
+pub const CONTINUE: u32 = 18;
+
+/// Asks for a frame of a started run.
+pub const FRAME: u32 = 19;
+
+/// Asks for a value of a frame of a started run.
+pub const VALUE: u32 = 20;
+
 /// The request was done.
 pub const DONE: u8 = 0;
 

@@ -6,5 +6,6 @@ pub mod decoding;
 pub mod encoding;
 pub mod laws;
 pub mod packet;
+pub mod payload;
 #[cfg(test)]
 mod tests;

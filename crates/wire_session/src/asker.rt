@@ -1,11 +1,14 @@
 //! The asking end of a session.
 
 ghost use Rattle.std.specs.Prelude.{◌≡◌, ◌≤◌, ◌↔◌, length, IfOk, OnErr, IsErr};
-ghost use Rattle.wire_session.specs.Asking.{nothing_asked, next_request, after_ask, is_awaited, after_reply, has_turn, after_turn};
+ghost use Rattle.wire_session.specs.Asking.{nothing_asked, next_request, after_ask, is_awaited, after_reply, has_turn, after_turn, break_after};
 
 use crate::replies::matches;
 use std::marker::Model;
+use wire_packets::command::BREAK;
+use wire_packets::decoding::u32_at;
 use wire_packets::packet::{LAST_SEQ, MAX_PAYLOAD, Packet};
+use wire_packets::payload::{BREAK_PLACE, BREAK_SIZE};
 
 /// 65,535 requests were asked in this session.
 #[derive(Clone, Copy, Debug, PartialEq, Eq)]
@@ -20,6 +23,8 @@ pub struct Asker {
     asked: u16,
     waiting: Option<Packet>,
     turns: u8,
+    /// The place of the last Break that was asked.
+    last_break: Option<u32>,
 }
 
 impl Model for Asker {
@@ -27,7 +32,18 @@ impl Model for Asker {
 
     ghost Value = { Asking };
 
-    ghost view = { λ a. record { asked = a.asked; waiting = a.waiting; turns = a.turns } };
+    ghost view = { λ a. record { asked = a.asked; waiting = a.waiting; turns = a.turns; last_break = a.last_break } };
+}
+
+/// The place of the last Break, once this was asked too.
+fn break_after(last: Option<u32>, command: u32, payload: &[u8]) -> Option<u32>
+    ensures { result ≡ break_after last command payload.now }
+{
+    if command == BREAK && payload.len() == BREAK_SIZE {
+        Some(u32_at(payload, BREAK_PLACE))
+    } else {
+        last
+    }
 }
 
 impl Asker {
@@ -39,6 +55,7 @@ impl Asker {
             asked: 0,
             waiting: None,
             turns: 0,
+            last_break: None,
         }
     }
 
@@ -57,6 +74,7 @@ impl Asker {
         self.asked = number;
         self.waiting = Some(Packet::request(command, number, payload));
         self.turns = 0;
+        self.last_break = break_after(self.last_break, command, payload);
         Ok(Packet::request(command, number, payload))
     }
 
@@ -67,7 +85,7 @@ impl Asker {
     {
         let awaited = match &self.waiting {
             None => false,
-            Some(request) => matches(request, p),
+            Some(request) => matches(self.last_break, request, p),
         };
         if awaited {
             self.waiting = None;

@@ -3,9 +3,9 @@
 ghost use Rattle.std.specs.Prelude.{◌≡◌, ◌<◌, ℕ, map, IfOk, IsErrOf, Some, None};
 ghost use Rattle.wire_session.specs.Net.{pieces, each, packet_number, number_list, newest_turns, listed_turn, item, script, Gives};
 
+use numerals::numeral::number;
 use plain_types::fault::NoMemory;
 use plain_types::list::Items;
-use numerals::numeral::number;
 use std::alloc::{AllocError, AllocFailed, Global};
 use std::collections::VecDeque;
 use std::marker::Model;

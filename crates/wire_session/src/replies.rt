@@ -1,26 +1,35 @@
 //! Which reply a request waits for.
 
 ghost use Rattle.std.specs.Prelude.{◌≡◌, ◌<◌, length};
-ghost use Rattle.wire_session.specs.Replies.{flash_shape, numbers_fit, is_run_end, has_asked_length, banks_fit, is_banks, fits, answers, matches};
+ghost use Rattle.wire_session.specs.Replies.{numbers_fit, is_end, is_start, has_asked_length, banks_fit, is_banks, stops_nowhere, state_fits, is_state, is_shown, fits, answers, matches};
 
 use wire_packets::command::{
-    BAD_CODE, BAD_SET, BANKS, CLOSE, DONE, ENDED, ERASE, FETCH, FLASH_FAILED, NO_MEMORY, NO_SET, OPEN,
-    PROGRAM, READ, RUN, UNRESOLVED,
+    BAD_CODE, BAD_SET, BANKS, BREAK, CLOSE, CONTINUE, DONE, ENDED, ERASE, FETCH, FLASH_FAILED,
+    FRAME, HELLO, NO_MEMORY, NO_SET, OPEN, PROGRAM, READ, RUN, START, UNRESOLVED, VALUE,
 };
 use wire_packets::decoding::u32_at;
 use wire_packets::packet::{Packet, REPLY};
+use wire_packets::payload::{
+    BANKS_BANK, BANKS_KIND, BANKS_MARKS, BANKS_NUMBER, BANKS_SIZE, END_FIRST, END_KIND, END_SECOND,
+    END_SIZE, END_TEXT, END_THIRD, FINISHED, IN_A_BANK, MAX_PIECE, MAX_TEXT, METHOD, NO_PLACE,
+    RANGE_LENGTH, RANGE_SIZE, SEEN_SIZE, SHOWN_KIND, SHOWN_SIZE, STATE_COUNT, STATE_KIND,
+    STATE_SIZE, STOPPED,
+};
 
-/// The most bytes that a result text has.
-pub const MAX_TEXT: u32 = 4_259_851;
-
-/// How many bytes tell the end of a run: its kind, three numbers, and the length of the result text.
-pub const END_SIZE: usize = 17;
-
-/// How many bytes a request has that reads or fetches: a place, and how many bytes it asks for.
-pub const RANGE_SIZE: usize = 8;
-
-/// The payload after [`DONE`] of the reply to Open: 32 sectors of 8,192 bytes.
+/// What follows [`DONE`] in the reply to Open: 32 sectors of 8,192 bytes.
 const FLASH_SHAPE: [u8; 8] = [32, 0, 0, 0, 0, 32, 0, 0];
+
+/// Whether there are as many bytes as the request asks for.
+#[tactic(auto, unfolding(crate::specs::Replies::has_asked_length))]
+fn has_asked_length(payload: &[u8], body: &[u8]) -> bool
+    ensures { result ≡ has_asked_length payload.now body.now }
+{
+    if payload.len() != RANGE_SIZE {
+        return false;
+    }
+    let asked = u32_at(payload, RANGE_LENGTH) as usize;
+    asked <= MAX_PIECE && body.len() == asked
+}
 
 /// Whether the numbers that a kind of end doesn't use are 0.
 fn numbers_fit(kind: u8, a: u32, b: u32, c: u32) -> bool
@@ -34,29 +43,31 @@ fn numbers_fit(kind: u8, a: u32, b: u32, c: u32) -> bool
     }
 }
 
-/// Whether the bytes tell the end of a run.
-#[tactic(auto, unfolding(crate::specs::Replies::is_run_end))]
-fn is_run_end(body: &[u8]) -> bool
-    ensures { result ≡ is_run_end body.now }
+/// Whether the bytes tell the end of a run, with a text of at most so many bytes.
+#[tactic(auto, unfolding(crate::specs::Replies::is_end))]
+fn is_end(body: &[u8], most: u32) -> bool
+    ensures { result ≡ is_end most body.now }
 {
     body.len() == END_SIZE
-        && numbers_fit(body[0], u32_at(body, 1), u32_at(body, 5), u32_at(body, 9))
-        && u32_at(body, 13) <= MAX_TEXT
+        && numbers_fit(
+            body[END_KIND],
+            u32_at(body, END_FIRST),
+            u32_at(body, END_SECOND),
+            u32_at(body, END_THIRD),
+        )
+        && u32_at(body, END_TEXT) <= most
 }
 
-/// Whether there are as many bytes as the request asks for.
-#[tactic(auto, unfolding(crate::specs::Replies::has_asked_length))]
-fn has_asked_length(payload: &[u8], body: &[u8]) -> bool
-    ensures { result ≡ has_asked_length payload.now body.now }
+/// Whether the bytes tell of a run that was started.
+#[tactic(auto, unfolding(crate::specs::Replies::is_start))]
+fn is_start(body: &[u8]) -> bool
+    ensures { result ≡ is_start body.now }
 {
-    payload.len() == RANGE_SIZE && body.len() == u32_at(payload, 4) as usize
+    match body {
+        [] => false,
+        [kind, ..] => *kind != BAD_CODE && is_end(body, 0),
+    }
 }
-
-/// How many bytes tell of the banks: a kind, a bank, its number, and which markers stand.
-pub const BANKS_SIZE: usize = 10;
-
-/// The kind of a set that stands in a bank.
-pub const IN_A_BANK: u8 = 3;
 
 /// Whether the bank and the number are ones that a kind of set has.
 fn banks_fit(kind: u8, bank: u32, number: u32) -> bool
@@ -75,45 +86,97 @@ fn is_banks(body: &[u8]) -> bool
     ensures { result ≡ is_banks body.now }
 {
     body.len() == BANKS_SIZE
-        && banks_fit(body[0], u32_at(body, 1), u32_at(body, 5))
-        && body[9] < 4
+        && banks_fit(
+            body[BANKS_KIND],
+            u32_at(body, BANKS_BANK),
+            u32_at(body, BANKS_NUMBER),
+        )
+        && body[BANKS_MARKS] < 4
+}
+
+/// Whether the last Break that was asked, by its place, told that the run isn't to stop.
+fn stops_nowhere(last_break: Option<u32>) -> bool
+    ensures { result ≡ stops_nowhere last_break }
+{
+    match last_break {
+        None => false,
+        Some(place) => place == NO_PLACE,
+    }
+}
+
+/// Whether a run that goes on can stand so.
+fn state_fits(last_break: Option<u32>, kind: u8, count: u32) -> bool
+    ensures { result ≡ state_fits last_break kind count }
+{
+    match kind {
+        STOPPED => !stops_nowhere(last_break),
+        FINISHED => count <= MAX_TEXT,
+        _ => kind == BAD_CODE,
+    }
+}
+
+/// Whether the bytes tell how a run that goes on stands.
+#[tactic(auto, unfolding(crate::specs::Replies::is_state))]
+fn is_state(last_break: Option<u32>, body: &[u8]) -> bool
+    ensures { result ≡ is_state last_break body.now }
+{
+    body.len() == STATE_SIZE && state_fits(last_break, body[STATE_KIND], u32_at(body, STATE_COUNT))
+}
+
+/// Whether the bytes show a value.
+#[tactic(auto, unfolding(crate::specs::Replies::is_shown))]
+fn is_shown(body: &[u8]) -> bool
+    ensures { result ≡ is_shown body.now }
+{
+    body.len() == SHOWN_SIZE && body[SHOWN_KIND] <= METHOD
 }
 
 /// Whether the bytes follow [`DONE`] in the reply to a request.
 #[tactic(auto, unfolding(crate::specs::Replies::fits))]
-fn fits(command: u32, payload: &[u8], body: &[u8]) -> bool
-    ensures { result ≡ fits command payload.now body.now }
+fn fits(last_break: Option<u32>, command: u32, payload: &[u8], body: &[u8]) -> bool
+    ensures { result ≡ fits last_break command payload.now body.now }
 {
     match command {
         OPEN => body == FLASH_SHAPE.as_slice(),
         READ | FETCH => has_asked_length(payload, body),
-        RUN => is_run_end(body),
+        RUN => is_end(body, MAX_TEXT),
         BANKS => is_banks(body),
-        PROGRAM | ERASE | CLOSE => body.is_empty(),
+        START => is_start(body),
+        CONTINUE => is_state(last_break, body),
+        FRAME => body.len() == SEEN_SIZE,
+        VALUE => is_shown(body),
+        PROGRAM | ERASE | CLOSE | HELLO | BREAK => body.is_empty(),
         _ => false,
     }
 }
 
 /// Whether a payload answers a request.
 #[tactic(auto, unfolding(crate::specs::Replies::answers))]
-fn answers(request: &Packet, payload: &[u8]) -> bool
-    ensures { result ≡ answers request.now payload.now }
+fn answers(last_break: Option<u32>, request: &Packet, payload: &[u8]) -> bool
+    ensures { result ≡ answers last_break request.now payload.now }
 {
     match payload {
         [] => false,
-        [DONE, body @ ..] => fits(request.command, request.payload.as_slice(), body),
+        [DONE, body @ ..] => fits(
+            last_break,
+            request.command,
+            request.payload.as_slice(),
+            body,
+        ),
         [status, body @ ..] => (*status == FLASH_FAILED || *status == NO_MEMORY) && body.is_empty(),
     }
 }
 
 /// Whether a packet is a reply that a request waits for: a reply with its number and command, whose payload is [`DONE`]
 /// with what the command asks for, or [`FLASH_FAILED`] or [`NO_MEMORY`] alone. The packet's own number isn't looked at.
+/// `last_break` is the place of the last Break that was asked in the session, and `None` before the first: while it is
+/// [`NO_PLACE`], no reply to Continue matches that tells of a stop.
 #[tactic(auto, unfolding(crate::specs::Replies::matches))]
-pub fn matches(request: &Packet, reply: &Packet) -> bool
-    ensures { result ≡ matches request.now reply.now }
+pub fn matches(last_break: Option<u32>, request: &Packet, reply: &Packet) -> bool
+    ensures { result ≡ matches last_break request.now reply.now }
 {
     reply.flags == REPLY
         && reply.command == request.command
         && reply.reply_seq == request.seq
-        && answers(request, reply.payload.as_slice())
+        && answers(last_break, request, reply.payload.as_slice())
 }

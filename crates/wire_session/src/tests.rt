@@ -52,8 +52,8 @@ fn requests_are_done_once(rt: HostRuntime) {
 fn answered(rt: &impl Abort, command: u32, payload: &[u8], reply: &[u8], wanted: bool) {
     assert!(rt; payload.len() <= MAX_PAYLOAD && reply.len() <= MAX_PAYLOAD);
     let request = Packet::request(command, 3, payload);
-    assert!(rt; matches(&request, &Packet::new(command, 0, 3, 1, reply)) == wanted);
-    assert!(rt; !matches(&request, &Packet::new(command, 0, 3, 0, reply)));
+    assert!(rt; matches(None, &request, &Packet::new(command, 0, 3, 1, reply)) == wanted);
+    assert!(rt; !matches(None, &request, &Packet::new(command, 0, 3, 0, reply)));
 }
 
 /// Commands, statuses and kinds stand here as the bytes that both ends exchange.
