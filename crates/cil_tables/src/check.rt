@@ -110,7 +110,9 @@ fn check_table(tables: &Tables<'_>, texts: &TextIndex<'_>, table: u8) -> Result<
     ensures broken { IfErr result (λ fault. first_broken (metadata.rules_of_rows tables.now table) ≡ Some fault) }
     ensures kept { OnOk result (first_broken (metadata.rules_of_rows tables.now table) ≡ None) }
 {
-    let mut before = Row { columns: [0; MOST_COLUMNS] };
+    let mut before = Row {
+        columns: [0; MOST_COLUMNS],
+    };
     for k in 0..tables.rows(table) {
         let row = tables.row(table, k + 1);
         if !keeps_columns(tables, texts, table, &before, &row) {

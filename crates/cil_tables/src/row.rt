@@ -17,7 +17,7 @@ pub struct Row {
 pub fn read_row(region: &[u8], widths: &Widths, start: usize) -> Row
     requires few { widths.now.count ≤ 9 }
     requires small { start < 2 ^ 48 }
-    ensures { (k : ℕ) → k < 9 → slice_index result.columns k ≡ slice_index (tables.numbers_at region.now start (take widths.now.count widths.now.columns)) k }
+    ensures { (k : ℕ) → slice_index result.columns k ≡ slice_index (tables.numbers_at region.now start (take widths.now.count widths.now.columns)) k }
 {
     let columns = &widths.columns[..widths.count];
     let mut numbers = [0; MOST_COLUMNS];

@@ -120,7 +120,7 @@ impl<'a> Tables<'a> {
     pub fn row(&self, table: u8, n: u32) -> Row
         requires first { 1 ≤ n }
         requires last { n ≤ metadata.row_count self.now table }
-        ensures { (k : ℕ) → k < 9 → slice_index result.columns k ≡ metadata.column_of self.now table n k }
+        ensures { (k : ℕ) → slice_index result.columns k ≡ metadata.column_of self.now table n k }
     {
         let layout = &self.layout;
         let rows = &layout.tables[table as usize];

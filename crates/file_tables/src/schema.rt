@@ -34,8 +34,28 @@ pub const TAG_TABLES: [&[u8]; 13] = [
     &[FIELD, PARAM, PROPERTY],
     // HasCustomAttribute
     &[
-        METHOD_DEF, FIELD, TYPE_REF, TYPE_DEF, PARAM, INTERFACE_IMPL, MEMBER_REF, MODULE, DECL_SECURITY, PROPERTY, EVENT, STAND_ALONE_SIG, MODULE_REF, TYPE_SPEC, ASSEMBLY,
-        ASSEMBLY_REF, FILE, EXPORTED_TYPE, MANIFEST_RESOURCE, GENERIC_PARAM, GENERIC_PARAM_CONSTRAINT, METHOD_SPEC,
+        METHOD_DEF,
+        FIELD,
+        TYPE_REF,
+        TYPE_DEF,
+        PARAM,
+        INTERFACE_IMPL,
+        MEMBER_REF,
+        MODULE,
+        DECL_SECURITY,
+        PROPERTY,
+        EVENT,
+        STAND_ALONE_SIG,
+        MODULE_REF,
+        TYPE_SPEC,
+        ASSEMBLY,
+        ASSEMBLY_REF,
+        FILE,
+        EXPORTED_TYPE,
+        MANIFEST_RESOURCE,
+        GENERIC_PARAM,
+        GENERIC_PARAM_CONSTRAINT,
+        METHOD_SPEC,
     ],
     // HasFieldMarshal
     &[FIELD, PARAM],
@@ -156,7 +176,12 @@ pub const SCHEMA: [&[Column]; TABLES] = [
     // 0x1B TypeSpec
     &[Blob],
     // 0x1C ImplMap
-    &[Two, Token(Coded::MemberForwarded), Strings, RowOf(MODULE_REF)],
+    &[
+        Two,
+        Token(Coded::MemberForwarded),
+        Strings,
+        RowOf(MODULE_REF),
+    ],
     // 0x1D FieldRVA
     &[Four, RowOf(FIELD)],
     &[],
@@ -210,7 +235,19 @@ pub const SCHEMA: [&[Column]; TABLES] = [
 
 /// The tables whose rows are looked at when a file is opened, in order.
 pub const LOOKED_AT: [u8; 13] = [
-    TYPE_REF, TYPE_DEF, FIELD, METHOD_DEF, INTERFACE_IMPL, MEMBER_REF, CLASS_LAYOUT, STAND_ALONE_SIG, TYPE_SPEC, FIELD_RVA, ASSEMBLY, ASSEMBLY_REF, NESTED_CLASS,
+    TYPE_REF,
+    TYPE_DEF,
+    FIELD,
+    METHOD_DEF,
+    INTERFACE_IMPL,
+    MEMBER_REF,
+    CLASS_LAYOUT,
+    STAND_ALONE_SIG,
+    TYPE_SPEC,
+    FIELD_RVA,
+    ASSEMBLY,
+    ASSEMBLY_REF,
+    NESTED_CLASS,
 ];
 
 /// The columns of a table; none where the number is no table's.

@@ -23,7 +23,7 @@ loop-k-preserved c =
     }
 
 pub returns : goal.returns
-returns c j below =
+returns c j =
     let widths = take c.args.widths.now.count c.args.widths.now.columns in
     ⊎_elim
     (λ (read : j < c.loop-k.k). c.loop-k.invariant.read j read)

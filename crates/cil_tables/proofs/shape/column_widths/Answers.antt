@@ -15,7 +15,7 @@ loop-k-preserved c =
     record {
       len = length-set c.loop-k.widths c.loop-k.k c.width-width.result ∙ c.loop-k.invariant.len;
       columns = take_more_set c.loop-k.widths c.loop-k.k c.width-width.result (omega (arith, c.loop-k.invariant.len))
-      ∙ rw (c.loop-k.invariant.columns, c.width-width.ensures.width) (sym (ap (map width) one_more ∙ map-append width (take c.loop-k.k items) _));
+          ∙ rw (c.loop-k.invariant.columns, c.width-width.ensures.width) (sym (ap (map width) one_more ∙ map-append width (take c.loop-k.k items) _));
       row = rw (c.from-row.ensures, c.loop-k.invariant.row, c.width-width.ensures.width) (sym (rw one_more (sum_by_push width (take c.loop-k.k items) _)));
       small = omega (arith, c.width-width.ensures.small, c.from-row.ensures, c.loop-k.invariant.small);
     }
