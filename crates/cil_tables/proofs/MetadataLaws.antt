@@ -1,5 +1,5 @@
 -- The tables of the whole region.
-use Rattle.std.proofs.Common.{◌≡◌, ℕ, zero, suc, ◌-◌, ◌<◌, ◌≤◌, ⊎_elim, List, [], map, length, Some, None, refl, ap, sym, ◌∙◌, arith}
+use Rattle.std.proofs.Common.{◌≡◌, ℕ, zero, suc, ◌+◌, ◌-◌, ◌*◌, ◌<◌, ◌≤◌, ⊎_elim, get_or, take, List, [], map, length, Some, None, refl, ap, sym, ◌∙◌, arith}
 use Rattle.std.specs.Prelude.{unwrap_or}
 use Rattle.std.specs.Option.{option_map}
 use Rattle.std.specs.List.{range_with_len}
@@ -11,6 +11,8 @@ use Rattle.file_tables.specs.Streams as streams
 use Rattle.file_tables.specs.Tables as tables
 use Rattle.file_tables.specs.Metadata as metadata
 use Rattle.cil_tables.specs.Place.{place_of}
+use Rattle.cil_tables.specs.Layout.{IsPlaced}
+use Rattle.cil_tables.specs.declared.layout.Rows.{Rows}
 use Rattle.cil_tables.specs.declared.root.Stream.{Stream}
 
 pub no_heap : (region name : List ℕ) → None ≡ option_map place_of (streams.stream_named region name) → streams.heap_named region name ≡ []
@@ -66,3 +68,10 @@ row_is region table (suc k) below first last =
     let same : suc k - 1 ≡ k = omega arith in
     rw (same, rows_are region table below)
     (get_or-map-range_with_len (tables.row_at region (metadata.shape_of region) (metadata.first_row region) table) 0 (tables.count_of (metadata.shape_of region) table) k k [] (omega arith) (omega arith))
+
+-- the numbers that stand where the layout places a row are the row's columns
+pub row_read : (region : List ℕ) (table n k : ℕ) (rows : Rows) → IsPlaced (metadata.shape_of region) (metadata.first_row region) table rows → table < 64 → 1 ≤ n → n ≤ metadata.row_count (metadata.metadata_part region) table → get_or (tables.numbers_at region (rows.start + (n - 1) * rows.widths.row) (take rows.widths.count rows.widths.columns)) k 0 ≡ metadata.column_of (metadata.metadata_part region) table n k
+unfolding tables.row_at
+row_read region table n k rows placed below first last =
+    let counted : n ≤ tables.count_of (metadata.shape_of region) table = rw (← count_is region table) last in
+    rw (row_is region table n below first counted, placed.start, placed.row, placed.columns) refl

@@ -57,9 +57,11 @@ pub filled_more : {X : Type 0} (f : ℕ → X) (xs : List X) (i : ℕ) (v d : X)
 filled_more f xs i v d below e before k h = rw e (fill_by_more f xs i d below before k h)
 
 -- a fact of each place filled so far
-pub holds_more : (P : ℕ → Type 0) (xs : List ℕ) (i v : ℕ) → i < length xs → P v → ((k : ℕ) → k < i → P (get_or xs k 0)) → (k : ℕ) → k < i + 1 → P (get_or (set xs i v) k 0)
-holds_more P xs i v below here before k h =
+pub holds_more : {X : Type 0} (P : ℕ → X → Type 0) (xs : List X) (i : ℕ) (v d : X) → i < length xs → P i v → ((k : ℕ) → k < i → P k (get_or xs k d)) → (k : ℕ) → k < i + 1 → P k (get_or (set xs i v) k d)
+holds_more P xs i v d below here before k h =
     ⊎_elim
-    (λ (lower : k < i). let other : k ≢ i = omega arith in subst P (sym (get_or-set_other xs i k v 0 other)) (before k lower))
-    (λ (at : i ≤ k). let same : k ≡ i = omega arith in subst (λ m. P (get_or (set xs i v) m 0)) (sym same) (subst P (sym (get_or-set_same xs i v 0 below)) here))
+    (λ (lower : k < i). let other : k ≢ i = omega arith in subst (P k) (sym (get_or-set_other xs i k v d other)) (before k lower))
+    (λ (at : i ≤ k).
+    let same : k ≡ i = omega arith in
+    subst (λ m. P m (get_or (set xs i v) m d)) (sym same) (subst (P i) (sym (get_or-set_same xs i v d below)) here))
     (cases_lt k i)

@@ -10,7 +10,8 @@ use crate::fault::{broken, broken_row};
 use crate::row::Row;
 use crate::tables::Tables;
 use crate::text_index::{PLACES, TextIndex};
-use file_tables::schema::{Coded, Column, LOOKED_AT, NO_TABLE, columns};
+use file_tables::numbers::{ASSEMBLY, NO_TABLE};
+use file_tables::schema::{Coded, Column, LOOKED_AT, MOST_COLUMNS, columns};
 use plain_types::fault::Fault;
 
 /// The table that a coded index names, and its row (ECMA-335 II.24.2.6).
@@ -109,7 +110,9 @@ fn check_table(tables: &Tables<'_>, texts: &TextIndex<'_>, table: u8) -> Result<
     ensures broken { IfErr result (λ fault. first_broken (metadata.rules_of_rows tables.now table) ≡ Some fault) }
     ensures kept { OnOk result (first_broken (metadata.rules_of_rows tables.now table) ≡ None) }
 {
-    let mut before = Row { columns: [0; 9] };
+    let mut before = Row {
+        columns: [0; MOST_COLUMNS],
+    };
     for k in 0..tables.rows(table) {
         let row = tables.row(table, k + 1);
         if !keeps_columns(tables, texts, table, &before, &row) {
@@ -144,7 +147,7 @@ pub fn check_rows(tables: &Tables<'_>) -> Result<(), Fault>
     let mut known = [false; PLACES];
     let texts = TextIndex::new(tables.strings(), &mut known);
     check_tables(tables, &texts)?;
-    if tables.rows(0x20) != 1 {
+    if tables.rows(ASSEMBLY) != 1 {
         return Err(broken(13, 0));
     }
     Ok(())

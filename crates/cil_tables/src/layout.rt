@@ -7,22 +7,23 @@ ghost use Rattle.file_tables.specs.Metadata as metadata;
 ghost use Rattle.file_tables.specs.Rules.{first_broken};
 ghost use Rattle.file_tables.specs.Streams.{rules_of_streams, streams_of};
 ghost use Rattle.cil_tables.specs.Place.{HasRoot};
-ghost use Rattle.cil_tables.specs.Layout.{count_behind, layout_rules, TablesAt, IsLayout};
+ghost use Rattle.cil_tables.specs.Layout.{count_behind, layout_rules, TablesAt, ArePlaced, IsLayout};
 ghost use Rattle.cil_tables.specs.Shape.{seen};
 ghost use Rattle.file_tables.specs.Tables as tables;
 
 use crate::fault::broken;
 use crate::root::{Headers, Stream, stream_named};
-use crate::shape::{Shape, count, row_width};
+use crate::shape::{Shape, Widths, column_widths, count};
 use crate::view::{byte, eight, four};
 use file_tables::bytes::has_bit;
+use file_tables::numbers::TABLES;
 use file_tables::schema::columns;
 use plain_types::fault::Fault;
 
 /// The row counts, and where the rows begin.
 #[derive(Clone, Copy)]
 struct Counts {
-    counts: [u32; 64],
+    counts: [u32; TABLES],
     first: usize,
 }
 
@@ -50,7 +51,7 @@ fn read_counts(region: &[u8], begin: usize, valid: u64) -> Counts
     ensures first { result.first ≡ begin + 24 + 4 * metadata.present_before valid 64 }
     ensures small { result.first ≤ begin + 280 }
 {
-    let mut counts = [0; 64];
+    let mut counts = [0; TABLES];
     let mut at = begin + 24;
     for t in 0..64 {
         let is_there = has_bit(valid, t);
@@ -73,11 +74,17 @@ fn knows_tables(valid: u64) -> bool
     true
 }
 
-/// Where the rows of each table begin and how wide they are, and where the last end.
+/// Where the rows of a table begin, and how wide their columns are.
+#[derive(Clone, Copy, Debug)]
+pub struct Rows {
+    pub start: usize,
+    pub widths: Widths,
+}
+
+/// Where the rows of each table stand, and where the last end.
 #[derive(Clone, Copy)]
 struct Places {
-    starts: [usize; 64],
-    widths: [usize; 64],
+    tables: [Rows; TABLES],
     end: usize,
 }
 
@@ -85,26 +92,20 @@ struct Places {
 #[tactic(auto, using(crate::proofs::Ranges::sizes_more, crate::proofs::Ranges::sizes_none))]
 fn place_rows(shape: &Shape, first: usize) -> Places
     requires { first < 2 ^ 33 }
-    ensures starts { (k : ℕ) → k < 64 → slice_index result.starts k ≡ first + tables.sizes_before (seen shape.now) k }
-    ensures widths { (k : ℕ) → k < 64 → slice_index result.widths k ≡ tables.row_width (seen shape.now) k }
+    ensures tables { ArePlaced (seen shape.now) first result.tables 64 }
     ensures end { result.end ≡ first + tables.sizes_before (seen shape.now) 64 }
-    ensures starts_small { (k : ℕ) → k < 64 → slice_index result.starts k < 2 ^ 45 }
-    ensures widths_small { (k : ℕ) → k < 64 → slice_index result.widths k ≤ 36 }
 {
-    let mut starts = [0; 64];
-    let mut widths = [0; 64];
     let mut at = first;
+    let mut tables = [Rows {
+        start: first,
+        widths: column_widths(shape, 0),
+    }; TABLES];
     for t in 0..64u8 {
-        let width = row_width(shape, t);
-        starts[t as usize] = at;
-        widths[t as usize] = width;
-        at += count(shape, t) as usize * width;
+        let widths = column_widths(shape, t);
+        tables[t as usize] = Rows { start: at, widths };
+        at += count(shape, t) as usize * widths.row;
     }
-    Places {
-        starts,
-        widths,
-        end: at,
-    }
+    Places { tables, end: at }
 }
 
 /// Rule 10 on the header's parts.
@@ -120,8 +121,7 @@ fn keeps_header(begin: usize, end: usize, heap_sizes: u8, valid: u64, first: usi
 #[derive(Clone, Copy, Debug)]
 pub struct Layout {
     pub shape: Shape,
-    pub starts: [usize; 64],
-    pub widths: [usize; 64],
+    pub tables: [Rows; TABLES],
 }
 
 /// The first broken rule on the tables' stream, or where the rows stand.
@@ -161,11 +161,6 @@ fn layout_of(region: &[u8], stream: Stream) -> Result<Layout, Fault>
     if places.end > end {
         return Err(broken(11, end));
     }
-    let starts = places.starts;
-    let widths = places.widths;
-    Ok(Layout {
-        shape,
-        starts,
-        widths,
-    })
+    let tables = places.tables;
+    Ok(Layout { shape, tables })
 }

@@ -16,6 +16,3 @@ mod view;
 
 pub use row::Row;
 pub use tables::{Tables, stream};
-
-#[cfg(test)]
-mod tests;

@@ -1,11 +1,12 @@
 //! How many rows the tables have, and how wide their columns are (ECMA-335 II.24.2.6).
 
-ghost use Rattle.std.specs.Prelude.{◌≡◌, ◌+◌, ◌*◌, ◌<◌, ◌≤◌, ◌^◌, slice_index};
+ghost use Rattle.std.specs.Prelude.{◌≡◌, ◌+◌, ◌*◌, ◌<◌, ◌≤◌, ◌^◌, slice_index, take};
 ghost use Rattle.file_tables.specs.Tables as tables;
 ghost use Rattle.cil_tables.specs.Shape.{seen};
 
 use file_tables::bytes::has_bit;
-use file_tables::schema::{Coded, Column, columns};
+use file_tables::numbers::TABLES;
+use file_tables::schema::{Coded, Column, MOST_COLUMNS, columns};
 
 /// What the widths of columns depend on.
 #[derive(Clone, Copy, Debug)]
@@ -13,7 +14,7 @@ pub struct Shape {
     /// Which indexes into heaps are wide.
     pub heap_sizes: u8,
     /// For each table how many rows it has.
-    pub counts: [u32; 64],
+    pub counts: [u32; TABLES],
 }
 
 /// How many rows a table has; none where the number is no table's.
@@ -40,7 +41,7 @@ fn is_wide(shape: &Shape, coded: Coded) -> bool
 }
 
 /// Two bytes, or four where an index is wide.
-fn width_if(wide: bool) -> usize
+fn width_if(wide: bool) -> u8
     ensures { result ≡ tables.width_if wide }
 {
     if wide { 4 } else { 2 }
@@ -48,11 +49,11 @@ fn width_if(wide: bool) -> usize
 
 /// The width of a column.
 #[tactic(auto, unfolding(file_tables::specs::Tables::width_of))]
-pub fn width(shape: &Shape, column: Column) -> usize
+fn width(shape: &Shape, column: Column) -> u8
     ensures width { result ≡ tables.width_of (seen shape.now) column }
     ensures small { result ≤ 4 }
 {
-    let heaps = shape.heap_sizes as u64;
+    let heaps = u64::from(shape.heap_sizes);
     match column {
         Column::Two => 2,
         Column::Four => 4,
@@ -64,16 +65,37 @@ pub fn width(shape: &Shape, column: Column) -> usize
     }
 }
 
-/// The width of a table's rows.
+/// The widths of a table's columns.
+#[derive(Clone, Copy, Debug)]
+pub struct Widths {
+    /// The widths of the columns in their order, and zeros behind them.
+    pub columns: [u8; MOST_COLUMNS],
+    /// How many columns there are.
+    pub count: usize,
+    /// The width of a row.
+    pub row: usize,
+}
+
+/// The widths of a table's columns, worked out once.
 #[tactic(auto, using(crate::proofs::SchemaLaws::columns_few), unfolding(file_tables::specs::Tables::row_width, file_tables::specs::Tables::widths_of))]
-pub fn row_width(shape: &Shape, table: u8) -> usize
+pub fn column_widths(shape: &Shape, table: u8) -> Widths
     requires { table < 64 }
-    ensures width { result ≡ tables.row_width (seen shape.now) table }
-    ensures small { result ≤ 36 }
+    ensures columns { take result.count result.columns ≡ tables.widths_of (seen shape.now) table }
+    ensures few { result.count ≤ 9 }
+    ensures row { result.row ≡ tables.row_width (seen shape.now) table }
+    ensures small { result.row ≤ 36 }
 {
-    let mut sum = 0;
-    for column in columns(table) {
-        sum += width(shape, *column);
+    let of = columns(table);
+    let mut widths = [0; MOST_COLUMNS];
+    let mut row = 0;
+    for (k, column) in of.iter().enumerate() {
+        let width = width(shape, *column);
+        widths[k] = width;
+        row += usize::from(width);
     }
-    sum
+    Widths {
+        columns: widths,
+        count: of.len(),
+        row,
+    }
 }

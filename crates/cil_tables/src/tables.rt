@@ -120,17 +120,17 @@ impl<'a> Tables<'a> {
     pub fn row(&self, table: u8, n: u32) -> Row
         requires first { 1 ≤ n }
         requires last { n ≤ metadata.row_count self.now table }
-        ensures { (k : ℕ) → k < 9 → slice_index result.columns k ≡ metadata.column_of self.now table n k }
+        ensures { (k : ℕ) → slice_index result.columns k ≡ metadata.column_of self.now table n k }
     {
         let layout = &self.layout;
-        let start = layout.starts[table as usize]
-            + (n - 1) as usize * layout.widths[table as usize];
-        read_row(self.region, &layout.shape, table, start)
+        let rows = &layout.tables[table as usize];
+        let start = rows.start + (n - 1) as usize * rows.widths.row;
+        read_row(self.region, &rows.widths, start)
     }
 
     /// The text at an offset of `#Strings` (ECMA-335 II.24.2.3); `None` exactly where no entry begins there.
     #[tactic(auto, unfolding(file_tables::specs::Metadata::metadata_part))]
-    pub fn string(&self, i: u32) -> Option<&str>
+    pub fn string(&self, i: u32) -> Option<&'a str>
         ensures { option_copied result ≡ heaps.string_at self.now.strings i }
     {
         heap::string(self.strings, i as usize)
@@ -138,7 +138,7 @@ impl<'a> Tables<'a> {
 
     /// The bytes of `#Strings`.
     #[tactic(auto, unfolding(file_tables::specs::Metadata::metadata_part))]
-    pub(crate) fn strings(&self) -> &[u8]
+    pub(crate) fn strings(&self) -> &'a [u8]
         ensures heap { result.now ≡ self.now.strings }
         ensures small { length result.now < 2 ^ 32 }
     {
@@ -147,7 +147,7 @@ impl<'a> Tables<'a> {
 
     /// The bytes at an offset of `#Blob` (ECMA-335 II.24.2.4); `None` exactly where no entry begins there.
     #[tactic(auto, unfolding(file_tables::specs::Metadata::metadata_part))]
-    pub fn blob(&self, i: u32) -> Option<&[u8]>
+    pub fn blob(&self, i: u32) -> Option<&'a [u8]>
         ensures { option_copied result ≡ heaps.blob_at self.now.blobs i }
     {
         heap::blob(self.blobs, i as usize)
@@ -156,7 +156,7 @@ impl<'a> Tables<'a> {
     /// The UTF-16 bytes at an offset of `#US`, without the final byte (ECMA-335 II.24.2.4); `None` exactly where no
     /// entry begins there.
     #[tactic(auto, unfolding(file_tables::specs::Metadata::metadata_part))]
-    pub fn user_string(&self, i: u32) -> Option<&[u8]>
+    pub fn user_string(&self, i: u32) -> Option<&'a [u8]>
         ensures { option_copied result ≡ heaps.user_string_at self.now.user_strings i }
     {
         heap::user_string(self.user_strings, i as usize)

@@ -8,6 +8,7 @@ use Rattle.file_tables.specs.declared.schema.Column.{Column}
 use Rattle.file_tables.specs.declared.schema.Column.TheVariants.{Two, Four, Strings, Guid, Blob, RowOf, ListOf, Token, TokenOrNone}
 use Rattle.file_tables.specs.declared.schema.Coded.{Coded}
 use Rattle.file_tables.specs.declared.schema.TheConstants.{LOOKED_AT}
+use Rattle.file_tables.specs.declared.numbers.TheConstants.{ASSEMBLY}
 use Rattle.file_tables.specs.Bytes.{u32_at, u64_at, has_bit}
 use Rattle.file_tables.specs.Schema.{columns_of, tag_bits_of, table_of}
 use Rattle.file_tables.specs.Rules.{Rule, rule_at, rule_of_row, first_broken, unless_broken}
@@ -147,7 +148,7 @@ rules_of_rows m table = map (λ row. rule_of_row 12 table row (is_row m table ro
 
 -- rule 13
 unfoldable pub has_one_assembly : MetadataPart → Bool
-has_one_assembly m = row_count m 0x20 == 1
+has_one_assembly m = row_count m ASSEMBLY == 1
 
 unfoldable pub rules_of_tables : MetadataPart → List Rule
 rules_of_tables m = flat_map (rules_of_rows m) LOOKED_AT ++ rule_at 13 0 (has_one_assembly m) ∷ []

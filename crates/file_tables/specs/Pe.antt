@@ -6,6 +6,7 @@ use Rattle.std.specs.List.{find, range_with_len}
 use Rattle.plain_types.specs.declared.fault.Fault.{Fault}
 use Rattle.file_tables.specs.Bytes.{u16_at, u32_at, range_of, has_bit}
 use Rattle.file_tables.specs.Rules.{Rule, rule_at, first_broken, unless_broken}
+use Rattle.file_tables.specs.declared.TheConstants.{MOST_FILE_BYTES}
 
 -- of a section header (II.25.3): VirtualAddress, SizeOfRawData, PointerToRawData
 pub record Section : Type 0 where
@@ -95,7 +96,7 @@ region_place file = file_place file (u32_at file (cli_header file + 8)) (region_
 
 -- rules 1 to 7, each with its offset in the file
 unfoldable pub is_dos : List ℕ → Bool
-is_dos file = nat_le 64 (length file) && nat_le (length file) 4194304 && slice_index file 0 == 0x4D && slice_index file 1 == 0x5A
+is_dos file = nat_le 64 (length file) && nat_le (length file) MOST_FILE_BYTES && slice_index file 0 == 0x4D && slice_index file 1 == 0x5A
 
 unfoldable pub is_pe : List ℕ → Bool
 is_pe file = nat_le (pe_header file + 24) (length file) && u32_at file (pe_header file) == 0x4550

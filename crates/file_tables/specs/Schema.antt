@@ -3,7 +3,8 @@ use Rattle.std.specs.Prelude.{ℕ, List, [], map, slice_index_or}
 use Rattle.file_tables.specs.declared.schema.Coded.{Coded}
 use Rattle.file_tables.specs.declared.schema.Coded.TheVariants.{TypeDefOrRef, HasConstant, HasCustomAttribute, HasFieldMarshal, HasDeclSecurity, MemberRefParent, HasSemantics, MethodDefOrRef, MemberForwarded, Implementation, CustomAttributeType, ResolutionScope, TypeOrMethodDef}
 use Rattle.file_tables.specs.declared.schema.Column.{Column}
-use Rattle.file_tables.specs.declared.schema.TheConstants.{SCHEMA, TAG_BITS, TAG_TABLES, NO_TABLE}
+use Rattle.file_tables.specs.declared.schema.TheConstants.{SCHEMA, TAG_BITS, TAG_TABLES}
+use Rattle.file_tables.specs.declared.numbers.TheConstants.{NO_TABLE}
 
 -- the columns of a table; none where the number is no table's
 unfoldable pub columns_of : ℕ → List Column

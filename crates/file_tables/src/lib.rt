@@ -4,6 +4,8 @@
 
 pub mod bytes;
 pub mod compressed;
+pub mod numbers;
 pub mod schema;
-#[cfg(test)]
-mod tests;
+
+/// The most bytes of a file: 4 MiB.
+pub const MOST_FILE_BYTES: usize = 4_194_304;

@@ -3,6 +3,8 @@
 ghost use Rattle.std.specs.Prelude.{◌≡◌, ◌<◌};
 ghost use Rattle.file_tables.specs.Schema.{columns_of, tables_of, tag_bits_of};
 
+use crate::numbers::*;
+
 /// A kind of coded index (ECMA-335 II.24.2.6).
 #[derive(Clone, Copy, Debug, PartialEq, Eq)]
 pub enum Coded {
@@ -21,43 +23,60 @@ pub enum Coded {
     TypeOrMethodDef,
 }
 
-/// The table number of a tag that names no table.
-pub const NO_TABLE: u8 = 255;
-
 /// How many of the lowest bits of a coded index are its tag, for each kind in the order of [`Coded`].
 pub const TAG_BITS: [u8; 13] = [2, 2, 5, 1, 2, 3, 1, 1, 1, 2, 3, 2, 1];
 
 /// The table of tag 0, 1, 2 and so on, for each kind in the order of [`Coded`].
 pub const TAG_TABLES: [&[u8]; 13] = [
     // TypeDefOrRef
-    &[0x02, 0x01, 0x1B],
+    &[TYPE_DEF, TYPE_REF, TYPE_SPEC],
     // HasConstant
-    &[0x04, 0x08, 0x17],
+    &[FIELD, PARAM, PROPERTY],
     // HasCustomAttribute
     &[
-        0x06, 0x04, 0x01, 0x02, 0x08, 0x09, 0x0A, 0x00, 0x0E, 0x17, 0x14, 0x11, 0x1A, 0x1B, 0x20,
-        0x23, 0x26, 0x27, 0x28, 0x2A, 0x2C, 0x2B,
+        METHOD_DEF,
+        FIELD,
+        TYPE_REF,
+        TYPE_DEF,
+        PARAM,
+        INTERFACE_IMPL,
+        MEMBER_REF,
+        MODULE,
+        DECL_SECURITY,
+        PROPERTY,
+        EVENT,
+        STAND_ALONE_SIG,
+        MODULE_REF,
+        TYPE_SPEC,
+        ASSEMBLY,
+        ASSEMBLY_REF,
+        FILE,
+        EXPORTED_TYPE,
+        MANIFEST_RESOURCE,
+        GENERIC_PARAM,
+        GENERIC_PARAM_CONSTRAINT,
+        METHOD_SPEC,
     ],
     // HasFieldMarshal
-    &[0x04, 0x08],
+    &[FIELD, PARAM],
     // HasDeclSecurity
-    &[0x02, 0x06, 0x20],
+    &[TYPE_DEF, METHOD_DEF, ASSEMBLY],
     // MemberRefParent
-    &[0x02, 0x01, 0x1A, 0x06, 0x1B],
+    &[TYPE_DEF, TYPE_REF, MODULE_REF, METHOD_DEF, TYPE_SPEC],
     // HasSemantics
-    &[0x14, 0x17],
+    &[EVENT, PROPERTY],
     // MethodDefOrRef
-    &[0x06, 0x0A],
+    &[METHOD_DEF, MEMBER_REF],
     // MemberForwarded
-    &[0x04, 0x06],
+    &[FIELD, METHOD_DEF],
     // Implementation
-    &[0x26, 0x23, 0x27],
+    &[FILE, ASSEMBLY_REF, EXPORTED_TYPE],
     // CustomAttributeType
-    &[NO_TABLE, NO_TABLE, 0x06, 0x0A],
+    &[NO_TABLE, NO_TABLE, METHOD_DEF, MEMBER_REF],
     // ResolutionScope
-    &[0x00, 0x1A, 0x23, 0x01],
+    &[MODULE, MODULE_REF, ASSEMBLY_REF, TYPE_REF],
     // TypeOrMethodDef
-    &[0x02, 0x06],
+    &[TYPE_DEF, METHOD_DEF],
 ];
 
 /// What a column of a table holds.
@@ -85,9 +104,6 @@ pub enum Column {
 
 use Column::{Blob, Four, Guid, ListOf, RowOf, Strings, Token, TokenOrNone, Two};
 
-/// How many table numbers there are.
-pub const TABLES: usize = 64;
-
 /// The most columns that a table has.
 pub const MOST_COLUMNS: usize = 9;
 
@@ -103,20 +119,20 @@ pub const SCHEMA: [&[Column]; TABLES] = [
         Strings,
         Strings,
         TokenOrNone(Coded::TypeDefOrRef),
-        ListOf(0x04),
-        ListOf(0x06),
+        ListOf(FIELD),
+        ListOf(METHOD_DEF),
     ],
     &[],
     // 0x04 Field
     &[Two, Strings, Blob],
     &[],
     // 0x06 MethodDef
-    &[Four, Two, Two, Strings, Blob, ListOf(0x08)],
+    &[Four, Two, Two, Strings, Blob, ListOf(PARAM)],
     &[],
     // 0x08 Param
     &[Two, Two, Strings],
     // 0x09 InterfaceImpl
-    &[RowOf(0x02), Token(Coded::TypeDefOrRef)],
+    &[RowOf(TYPE_DEF), Token(Coded::TypeDefOrRef)],
     // 0x0A MemberRef
     &[Token(Coded::MemberRefParent), Strings, Blob],
     // 0x0B Constant
@@ -132,26 +148,26 @@ pub const SCHEMA: [&[Column]; TABLES] = [
     // 0x0E DeclSecurity
     &[Two, Token(Coded::HasDeclSecurity), Blob],
     // 0x0F ClassLayout
-    &[Two, Four, RowOf(0x02)],
+    &[Two, Four, RowOf(TYPE_DEF)],
     // 0x10 FieldLayout
-    &[Four, RowOf(0x04)],
+    &[Four, RowOf(FIELD)],
     // 0x11 StandAloneSig
     &[Blob],
     // 0x12 EventMap
-    &[RowOf(0x02), ListOf(0x14)],
+    &[RowOf(TYPE_DEF), ListOf(EVENT)],
     &[],
     // 0x14 Event
     &[Two, Strings, Token(Coded::TypeDefOrRef)],
     // 0x15 PropertyMap
-    &[RowOf(0x02), ListOf(0x17)],
+    &[RowOf(TYPE_DEF), ListOf(PROPERTY)],
     &[],
     // 0x17 Property
     &[Two, Strings, Blob],
     // 0x18 MethodSemantics
-    &[Two, RowOf(0x06), Token(Coded::HasSemantics)],
+    &[Two, RowOf(METHOD_DEF), Token(Coded::HasSemantics)],
     // 0x19 MethodImpl
     &[
-        RowOf(0x02),
+        RowOf(TYPE_DEF),
         Token(Coded::MethodDefOrRef),
         Token(Coded::MethodDefOrRef),
     ],
@@ -160,9 +176,14 @@ pub const SCHEMA: [&[Column]; TABLES] = [
     // 0x1B TypeSpec
     &[Blob],
     // 0x1C ImplMap
-    &[Two, Token(Coded::MemberForwarded), Strings, RowOf(0x1A)],
+    &[
+        Two,
+        Token(Coded::MemberForwarded),
+        Strings,
+        RowOf(MODULE_REF),
+    ],
     // 0x1D FieldRVA
-    &[Four, RowOf(0x04)],
+    &[Four, RowOf(FIELD)],
     &[],
     &[],
     // 0x20 Assembly
@@ -174,9 +195,9 @@ pub const SCHEMA: [&[Column]; TABLES] = [
     // 0x23 AssemblyRef
     &[Two, Two, Two, Two, Four, Blob, Strings, Strings, Blob],
     // 0x24 AssemblyRefProcessor
-    &[Four, RowOf(0x23)],
+    &[Four, RowOf(ASSEMBLY_REF)],
     // 0x25 AssemblyRefOS
-    &[Four, Four, Four, RowOf(0x23)],
+    &[Four, Four, Four, RowOf(ASSEMBLY_REF)],
     // 0x26 File
     &[Four, Strings, Blob],
     // 0x27 ExportedType
@@ -184,13 +205,13 @@ pub const SCHEMA: [&[Column]; TABLES] = [
     // 0x28 ManifestResource
     &[Four, Four, Strings, Token(Coded::Implementation)],
     // 0x29 NestedClass
-    &[RowOf(0x02), RowOf(0x02)],
+    &[RowOf(TYPE_DEF), RowOf(TYPE_DEF)],
     // 0x2A GenericParam
     &[Two, Two, Token(Coded::TypeOrMethodDef), Strings],
     // 0x2B MethodSpec
     &[Token(Coded::MethodDefOrRef), Blob],
     // 0x2C GenericParamConstraint
-    &[RowOf(0x2A), Token(Coded::TypeDefOrRef)],
+    &[RowOf(GENERIC_PARAM), Token(Coded::TypeDefOrRef)],
     &[],
     &[],
     &[],
@@ -214,7 +235,19 @@ pub const SCHEMA: [&[Column]; TABLES] = [
 
 /// The tables whose rows are looked at when a file is opened, in order.
 pub const LOOKED_AT: [u8; 13] = [
-    0x01, 0x02, 0x04, 0x06, 0x09, 0x0A, 0x0F, 0x11, 0x1B, 0x1D, 0x20, 0x23, 0x29,
+    TYPE_REF,
+    TYPE_DEF,
+    FIELD,
+    METHOD_DEF,
+    INTERFACE_IMPL,
+    MEMBER_REF,
+    CLASS_LAYOUT,
+    STAND_ALONE_SIG,
+    TYPE_SPEC,
+    FIELD_RVA,
+    ASSEMBLY,
+    ASSEMBLY_REF,
+    NESTED_CLASS,
 ];
 
 /// The columns of a table; none where the number is no table's.

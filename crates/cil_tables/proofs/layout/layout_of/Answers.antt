@@ -39,8 +39,5 @@ returns-clause-layout c =
     let first = first_is c.args.region.now _ _ _ _ _ read in
     record {
       shape = shape;
-      starts = λ k below. rw (← shape, ← first) (c.place_rows-places.ensures.starts k below);
-      widths = λ k below. rw (← shape) (c.place_rows-places.ensures.widths k below);
-      starts_small = c.place_rows-places.ensures.starts_small;
-      widths_small = c.place_rows-places.ensures.widths_small;
+      tables = λ table below other. rw (← shape, ← first) (c.place_rows-places.ensures.tables table below other);
     }
