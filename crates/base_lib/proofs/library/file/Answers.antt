@@ -2,7 +2,7 @@ use Rattle.std.proofs.Common.{arith, ap, ◌∙◌, Err}
 use Rattle.cil_layout.specs.Asked.{weight_of}
 use Rattle.base_tables.specs.Shape.{items_of}
 use Rattle.base_lib.proofs.Room.{whole_light}
-use Rattle.base_lib.proofs.files.file.Goals as goal
+use Rattle.base_lib.proofs.library.file.Goals as goal
 
 -- the weight is within bounds
 pub unreachable-requires : goal.unreachable-requires

@@ -3,7 +3,7 @@ use Rattle.cil_layout.specs.Asked.{Asked, rows_of, weight_of}
 use Rattle.base_tables.specs.Shape.{items_of}
 use Rattle.base_lib.proofs.Askable.{are_fit}
 use Rattle.base_lib.proofs.Room.{items_few, small_at, walked_room, walked_light}
-use Rattle.base_lib.proofs.files.library.Goals as goal
+use Rattle.base_lib.proofs.library.library.Goals as goal
 
 pub add_item-requires-clause-few : goal.add_item-requires-clause-few
 add_item-requires-clause-few c = omega (arith, items_few c.args.items.now c.requires.fit)
