@@ -109,7 +109,7 @@ static void numbers(Buffer *b, const uint32_t *list, const int *widths, int coun
 /* The stream `#~`. */
 static Buffer tables(const Parts *p, uint32_t made, uint32_t library, uint32_t space, uint32_t object) {
     static const unsigned char head[24] = {0, 0, 0, 0, 2, 0, 0, 1, 0x57, 0x86, 0x02, 0x28, 0x09, 0x02, 0, 0,
-                                           0, 0xFA, 0x01, 0x33, 0, 0x16, 0, 0};
+                                           0, 0x78, 0x01, 0x33, 0, 0x14, 0, 0};
     Buffer t = {0};
     grow(&t, head, sizeof head);
     counts(&t, p->types.size / 14, methods_so_far(p));

@@ -5,8 +5,7 @@ set -eu
 crates=$(dirname "$(readlink -f "$0")")/../crates
 work=$(mktemp -d)
 trap 'rm -rf "$work"' EXIT
-(cd "$crates/reference_assemblies" && rt run -- "$work") >/dev/null 2>&1
-(cd "$crates/build_rounds" && rt run -- 3 1 "$work/Made.exe") >/dev/null 2>&1
+(cd "$crates/workbench" && rt run -- reference "$work" then build 3 1 "$work/Made.exe") >/dev/null 2>&1
 for file in mscorlib.dll Microsoft.SPOT.Native.dll Made.exe; do
   monodis "$work/$file" >/dev/null && echo "monodis reads $file"
   pedump "$work/$file" >/dev/null && echo "pedump reads $file"

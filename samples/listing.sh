@@ -1,5 +1,5 @@
 #!/usr/bin/env bash
-# Prints what monodis (Debian's mono-utils) tells of the tables of assemblies, in the form of `table_walk list`:
+# Prints what monodis (Debian's mono-utils) tells of the tables of assemblies, in the form of `workbench list`:
 # listing.sh FILES
 set -eu
 rows() { monodis "--$1" "$2" 2>/dev/null | grep -cE '^ *[0-9]+: ' || true; }

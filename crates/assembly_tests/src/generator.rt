@@ -2,7 +2,7 @@ ghost use Rattle.std.specs.Prelude.{◌≤◌};
 
 use cil_layout::rows::{METHOD_DEF, TYPE_DEF};
 use cil_listing::assembly::open;
-use mf_front::generator::made;
+use made_assembly::made;
 use std::alloc::Global;
 use std::test::Fail;
 

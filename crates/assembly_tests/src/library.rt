@@ -1,4 +1,4 @@
-use base_lib::files::{files, native};
+use base_lib::{files, native};
 use cil_listing::assembly::open;
 use cil_listing::members::listing;
 use std::alloc::Global;

@@ -1,7 +1,8 @@
 pub mod Names
 pub mod Walks
-mod Tables
+pub mod Tables
 pub mod Added
+pub mod Calls
 pub mod Folds
 pub mod Fitting
 pub mod Bytes

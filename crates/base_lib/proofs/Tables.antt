@@ -1,6 +1,6 @@
 -- The tables name only keys and labels that they have, their branches are short, and their natives have the numbers 1 to 17.
-use Rattle.std.proofs.Common.{◌≡◌, ℕ, ◌+◌, ◌-◌, List, [], ◌∷◌, ◌++◌, length, take, map, Bool, true, false, refl, get_or}
-use Rattle.std.specs.Prelude.{◌&&◌, ◌||◌, nat_le, nat_lt, codes, filter}
+use Rattle.std.proofs.Common.{◌≡◌, ℕ, ◌+◌, List, [], ◌∷◌, ◌++◌, Bool, true, refl}
+use Rattle.std.specs.Prelude.{◌&&◌, ◌||◌, nat_le, nat_lt, codes}
 use Rattle.std.specs.List.{list_all, list_any}
 use Rattle.std.specs.Str.{bytes_eq}
 use Rattle.base_tables.specs.Shape.{Item, Line, Kind}
@@ -11,11 +11,9 @@ use Rattle.base_tables.specs.declared.shape.Element.{Element}
 use Rattle.base_tables.specs.declared.shape.Element.TheVariants.{Class, Value}
 use Rattle.base_tables.specs.declared.shape.Form.{Form}
 use Rattle.base_tables.specs.declared.shape.Form.TheVariants.{Jump, Name}
-use Rattle.base_tables.specs.declared.shape.Work.{Work}
-use Rattle.base_tables.specs.declared.shape.Work.TheVariants.{Native}
-use Rattle.base_tables.specs.declared.library.TheConstants.{NATIVES}
 use Rattle.base_lib.specs.Keys.{has_key}
 use Rattle.base_lib.specs.Code.{is_label, label_from, line_length}
+use Rattle.base_lib.specs.Natives.{has_each_number, are_named}
 
 -- whether an item has a key
 is_there : List Item → List ℕ → Bool
@@ -67,23 +65,15 @@ native_there : all_there native_items ≡ true
 unfolding all_there item_there is_there base_there element_there kinds_there line_there lines_there label_from native_items
 native_there = refl
 
-is_native : Work → Bool
-is_native Native = true
-is_native _ = false
+abbrev pub all_items : List Item
+all_items = mscorlib_items ++ native_items
 
-all_natives : List Item
-all_natives = filter (λ item. is_native item.body.work) (mscorlib_items ++ native_items)
+-- each of the numbers 1 to 17 is that of one native
+pub natives_numbered : has_each_number all_items ≡ true
+unfolding native_items mscorlib_items object_items helper_items small_number_items wide_number_items string_items text_items builder_items exception_items fault_items refusal_items interface_items list_items enumerator_items
+natives_numbered = refl
 
--- each of the numbers 1 to 17 is that of one native, here in the order of the tables
-natives_count : map (λ item. item.body.number) all_natives ≡ 1 ∷ 2 ∷ 3 ∷ 4 ∷ 5 ∷ 16 ∷ 14 ∷ 15 ∷ 6 ∷ 7 ∷ 8 ∷ 9 ∷ 10 ∷ 11 ∷ 12 ∷ 13 ∷ 17 ∷ []
-unfolding all_natives is_native native_items mscorlib_items object_items helper_items small_number_items wide_number_items string_items text_items builder_items exception_items fault_items refusal_items interface_items list_items enumerator_items
-natives_count = refl
-
--- the name of a native's number
-name_of : ℕ → List ℕ
-name_of number = get_or (map (λ name. name.now) NATIVES) (number - 1) []
-
--- and each is the one that its number names
-natives_named : list_all (λ item. bytes_eq (take (length (name_of item.body.number)) item.key) (name_of item.body.number)) all_natives ≡ true
-unfolding name_of all_natives is_native native_items mscorlib_items object_items helper_items small_number_items wide_number_items string_items text_items builder_items exception_items fault_items refusal_items interface_items list_items enumerator_items
+-- and each is the method that its number names
+pub natives_named : are_named [] all_items ≡ true
+unfolding are_named native_items mscorlib_items object_items helper_items small_number_items wide_number_items string_items text_items builder_items exception_items fault_items refusal_items interface_items list_items enumerator_items
 natives_named = refl

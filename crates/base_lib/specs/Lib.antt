@@ -4,3 +4,4 @@ pub mod Code
 pub mod Small
 pub mod Fits
 pub mod Files
+pub mod Natives

@@ -8,7 +8,7 @@ ghost use Rattle.base_lib.specs.Code.{op_bytes, line_length, label_from, is_labe
 use crate::keys::token_for;
 use base_tables::op::Op;
 use base_tables::shape::{Form, Item, Line};
-use cil_build::write::{push_bytes, push_four, push_two};
+use cil_bytes::write::{push_bytes, push_four, push_two};
 use plain_types::fault::NoMemory;
 use std::alloc::Global;
 

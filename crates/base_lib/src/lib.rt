@@ -2,9 +2,11 @@
 #![tactic(auto)]
 
 mod code;
-pub mod files;
 mod items;
 mod keys;
 pub mod law;
+pub mod library;
 mod rows;
 mod signatures;
+
+pub use library::{files, native};

@@ -9,8 +9,8 @@ ghost use Rattle.base_lib.specs.Signatures.{kind_bytes, kinds_bytes, method_sign
 
 use crate::keys::token_for;
 use base_tables::shape::{Element, Item, Kind, Signature};
-use cil_build::tokens::type_of;
-use cil_build::write::{push_bytes, push_compressed};
+use cil_bytes::tokens::type_of;
+use cil_bytes::write::{push_bytes, push_compressed};
 use plain_types::fault::NoMemory;
 use std::alloc::Global;
 

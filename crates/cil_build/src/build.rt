@@ -9,11 +9,11 @@ ghost use Rattle.cil_layout.specs.Text.{text_end};
 ghost use Rattle.cil_layout.specs.Layout.{built};
 ghost use Rattle.cil_build.specs.Refs.{row_of_ref};
 
-use crate::count::{count_row, heavier, heavier_name, heavier_row, text_len};
-use crate::heaps::heaps_of;
-use crate::layout::{file_of, metadata_of, tables_stream};
 use crate::refs::{RefRow, copied};
-use crate::tables::Source;
+use cil_bytes::count::{count_row, heavier, heavier_name, heavier_row, text_len};
+use cil_bytes::heaps::heaps_of;
+use cil_bytes::layout::{file_of, metadata_of, tables_stream};
+use cil_bytes::tables::Source;
 use cil_layout::rows::{
     FIELD, FieldRow, HEADERS_WEIGHT, LITERAL, METHOD_DEF, MOST_ROWS, MOST_WEIGHT, MethodRow,
     ROW_WEIGHT, Row, TYPE_DEF, TypeRow,

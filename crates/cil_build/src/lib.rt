@@ -2,10 +2,7 @@
 #![tactic(auto)]
 
 pub mod build;
-mod count;
-mod heaps;
-mod layout;
 pub mod refs;
-mod tables;
-pub mod tokens;
-pub mod write;
+
+pub use build::{Build, BuildRefusal};
+pub use refs::RefRow;

@@ -11,6 +11,7 @@ use Rattle.cil_layout.specs.Heaps.{padded, name_entry, strings_of, blobs_of, tex
 use Rattle.cil_layout.specs.Numbers.{table_rows, fixed_rows, rows_from, first_places}
 use Rattle.cil_layout.specs.Layout.{root, metadata, metadata_by, file_by, built, four, width, widths_by, column_widths, all_spelled, stream_by, heap_sizes, tables_stream}
 use Rattle.cil_layout.specs.Counted.{IsCounted}
+use Rattle.file_tables.specs.Schema.{columns_of}
 use Rattle.cil_layout.proofs.Below.{and_left, and_right}
 use Rattle.cil_layout.proofs.Sizes.{no_fixed, tables_of, sums, tables_sum, rows_le, length-rows_from, length-padded, name_le}
 
@@ -61,6 +62,7 @@ table_le w name version rows table fits fixed =
     )
 
 tables_le : (w : Widths) (name version : List ℕ) (rows : List Row) → Narrow w → length (flat_map (all_spelled w name version rows) TABLES) ≤ 96 + 32 * sum_by tables_of rows
+unfolding columns_of
 tables_le w name version rows n =
     let s : w.strings ≤ 4 = n.strings in let b : w.blobs ≤ 4 = n.blobs in let t : w.types ≤ 4 = n.types in let p : w.parents ≤ 4 = n.parents in let c : w.scopes ≤ 4 = n.scopes in
     omega (

@@ -1,8 +1,13 @@
 -- The bytes of an assembly, part by part (II.25, II.24.2).
-use Rattle.std.specs.Prelude.{ℕ, ◌+◌, ◌-◌, ◌*◌, ◌/◌, List, [], ◌∷◌, ◌++◌, length, take, replicate, Bool, ◌||◌, nat_le, if◌then◌else◌, ◌==◌}
+use Rattle.std.specs.Prelude.{ℕ, ◌+◌, ◌-◌, ◌*◌, ◌/◌, List, [], ◌∷◌, ◌++◌, length, map, take, replicate, Bool, ◌||◌, nat_le, if◌then◌else◌, ◌==◌}
 use Rattle.std.specs.List.{flat_map}
 use Rattle.std.specs.Int.{to_le_bytes, w16, w32}
-use Rattle.cil_layout.specs.declared.rows.TheConstants.{MODULE, TYPE_REF, TYPE_DEF, FIELD, METHOD_DEF, INTERFACE_IMPL, MEMBER_REF, CLASS_LAYOUT, STAND_ALONE_SIG, TYPE_SPEC, FIELD_RVA, ASSEMBLY, ASSEMBLY_REF, NESTED_CLASS, TABLES}
+use Rattle.file_tables.specs.declared.schema.Coded.{Coded}
+use Rattle.file_tables.specs.declared.schema.Coded.TheVariants.{TypeDefOrRef, MemberRefParent, ResolutionScope}
+use Rattle.file_tables.specs.declared.schema.Column.{Column}
+use Rattle.file_tables.specs.declared.schema.Column.TheVariants.{Two, Four, Strings, Guid, Blob, RowOf, ListOf, Token, TokenOrNone}
+use Rattle.file_tables.specs.Schema.{columns_of}
+use Rattle.cil_layout.specs.declared.rows.TheConstants.{TYPE_REF, TYPE_DEF, METHOD_DEF, TYPE_SPEC, ASSEMBLY_REF, TABLES}
 use Rattle.cil_layout.specs.declared.rows.Row.{Row}
 use Rattle.cil_layout.specs.declared.places.Widths.{Widths}
 use Rattle.cil_layout.specs.declared.fixed.TheConstants.{DOS_HEADER, COFF_HEADER, PROGRAM_FLAGS, LIBRARY_FLAGS, OPTIONAL_HEADER, IMAGE_FIELDS, DIRECTORIES, SECTION_ADDRESS, SECTION_END, CLI_HEADER, CLI_FLAGS, CONTENT_RVA, ROOT, TABLES_PLACE, TABLES_NAME, STRINGS_NAME, TEXTS_NAME, GUID_NAME, BLOBS_NAME, TABLES_HEADER, VALID_TABLES, MODULE_GUID}
@@ -67,24 +72,27 @@ widths_by count strings blobs = record {
 unfoldable pub widths : Asked → Widths
 widths r = widths_by (rows_of r) (length (strings_heap r)) (length (blobs_heap r))
 
+-- how wide a column is; no table has so many rows that an index into it alone is wide
+abbrev pub token_width : Widths → Coded → ℕ
+token_width w TypeDefOrRef = w.types
+token_width w MemberRefParent = w.parents
+token_width w ResolutionScope = w.scopes
+token_width w _ = 2
+
+abbrev pub column_width : Widths → Column → ℕ
+column_width w Two = 2
+column_width w Four = 4
+column_width w Strings = w.strings
+column_width w Guid = 2
+column_width w Blob = w.blobs
+column_width w (RowOf table) = 2
+column_width w (ListOf table) = 2
+column_width w (Token coded) = token_width w coded
+column_width w (TokenOrNone coded) = token_width w coded
+
 -- the widths of a table's columns (II.22)
 abbrev pub column_widths : Widths → ℕ → List ℕ
-column_widths w table =
-    if table == MODULE then 2 ∷ w.strings ∷ 2 ∷ 2 ∷ 2 ∷ []
-    else if table == TYPE_REF then w.scopes ∷ w.strings ∷ w.strings ∷ []
-    else if table == TYPE_DEF then 4 ∷ w.strings ∷ w.strings ∷ w.types ∷ 2 ∷ 2 ∷ []
-    else if table == FIELD then 2 ∷ w.strings ∷ w.blobs ∷ []
-    else if table == METHOD_DEF then 4 ∷ 2 ∷ 2 ∷ w.strings ∷ w.blobs ∷ 2 ∷ []
-    else if table == INTERFACE_IMPL then 2 ∷ w.types ∷ []
-    else if table == MEMBER_REF then w.parents ∷ w.strings ∷ w.blobs ∷ []
-    else if table == CLASS_LAYOUT then 2 ∷ 4 ∷ 2 ∷ []
-    else if table == STAND_ALONE_SIG then w.blobs ∷ []
-    else if table == TYPE_SPEC then w.blobs ∷ []
-    else if table == FIELD_RVA then 4 ∷ 2 ∷ []
-    else if table == ASSEMBLY then 4 ∷ 2 ∷ 2 ∷ 2 ∷ 2 ∷ 4 ∷ w.blobs ∷ w.strings ∷ w.strings ∷ []
-    else if table == ASSEMBLY_REF then 2 ∷ 2 ∷ 2 ∷ 2 ∷ 4 ∷ w.blobs ∷ w.strings ∷ w.strings ∷ w.blobs ∷ []
-    else if table == NESTED_CLASS then 2 ∷ 2 ∷ []
-    else []
+column_widths w table = map (column_width w) (columns_of table)
 
 -- numbers in so many bytes each
 abbrev pub spelled : List ℕ → List ℕ → List ℕ

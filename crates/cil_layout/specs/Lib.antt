@@ -1,7 +1,6 @@
 pub mod Askable
 pub mod Asked
 pub mod Counted
-pub mod Fits
 pub mod Heaps
 pub mod Layout
 pub mod Numbers

@@ -104,12 +104,13 @@ pub const BLOBS_NAME: [u8; 8] = [0x23, 0x42, 0x6C, 0x6F, 0x62, 0x00, 0x00, 0x00]
 /// The head of `#~`: version 2.0 (II.24.2.6). The widths of the heaps' indexes follow in one byte.
 pub const TABLES_HEADER: [u8; 6] = [0x00, 0x00, 0x00, 0x00, 0x02, 0x00];
 
-/// A byte that is always 1, the bits of the tables that are there, and those of the tables that are sorted.
+/// A byte that is always 1, the bits of the tables that are there, and those of the tables that are sorted: all that the
+/// standard wants sorted (II.22) but InterfaceImpl, ClassLayout and NestedClass, whose rows stand in the order asked.
 #[rattlefmt::skip]
 pub const VALID_TABLES: [u8; 17] = [
     0x01,
     0x57, 0x86, 0x02, 0x28, 0x09, 0x02, 0x00, 0x00,
-    0x00, 0xFA, 0x01, 0x33, 0x00, 0x16, 0x00, 0x00,
+    0x00, 0x78, 0x01, 0x33, 0x00, 0x14, 0x00, 0x00,
 ];
 
 /// The GUID of every module that is made.

@@ -15,6 +15,7 @@ use Rattle.cil_layout.specs.Numbers.{body_rva, numbers_of, data_row, data_row_of
 use Rattle.cil_layout.specs.Layout.{column_widths, widths}
 use Rattle.cil_layout.proofs.Below.{and_left, and_right}
 use Rattle.file_tables.specs.Bytes.{has_bit}
+use Rattle.file_tables.specs.Schema.{columns_of}
 use Rattle.layout_laws.proofs.RowsNumbers.{FitsIn, in_two, in_four}
 use Rattle.layout_laws.proofs.RowsHeader.{valid, for_tables}
 use Rattle.layout_laws.proofs.RowsRoom.{AreSmall, are_small, first_room, HasRoom, RowRoom, row_room, next_room, name_room}
@@ -66,6 +67,7 @@ module _ (r : Asked) (askable : IsAskable r) (small : AreSmall r) where
 
   -- the numbers in a row's own table
   own_fits : (p : Places) (row : Row) → is_askable_row r row ≡ true → RowRoom r p row → RowFits r (table_of row) (numbers_of p row)
+  unfolding columns_of
   own_fits p (TypeDef t) asked room =
       let names : FitsIn (widths r).strings (name_place (p.strings + length (name_entry t.namespace)) t.name) × FitsIn (widths r).strings (name_place p.strings t.namespace) = names_in p.strings t.namespace t.name room.strings in
       (in_four refl (ltb-true _ _ (and_left _ _ (and_left _ _ (and_left _ _ asked)))), (names.0, (names.1, (type_or_none_fits r t.extends (and_right _ _ asked), (next_fits p.fields room.fields, (next_fits p.methods room.methods, tt))))))
@@ -96,6 +98,7 @@ module _ (r : Asked) (askable : IsAskable r) (small : AreSmall r) where
 
   -- the row of FieldRVA of a field with data
   data_fits : (p : Places) (row : Row) → RowRoom r p row → All (RowFits r 29) (data_row_of p row)
+  unfolding columns_of
   data_fits p (Field f) room = filled f.bytes where
     filled : (bytes : List ℕ) → All (RowFits r 29) (data_row p bytes)
     filled [] = All-nil (RowFits r 29)
@@ -123,15 +126,17 @@ module _ (r : Asked) (askable : IsAskable r) (small : AreSmall r) where
 
   -- the rows that nobody asks for
   module_fits : RowFits r 0 (0 ∷ name_place 10 r.name ∷ 1 ∷ 0 ∷ 0 ∷ [])
+  unfolding columns_of
   module_fits = (in_two refl (omega arith), (name_in 10 r.name (omega (arith, name_room r)), (in_two refl (omega arith), (in_two refl (omega arith), (in_two refl (omega arith), tt)))))
 
   module_type_fits : RowFits r 2 (0 ∷ 1 ∷ 0 ∷ 0 ∷ 1 ∷ 1 ∷ [])
-  unfolding widths
+  unfolding widths columns_of
   module_type_fits =
       let name : FitsIn (widths r).strings 1 = place_fits (length (strings_heap r)) 1 small.strings (omega (arith, name_room r)) in
       (in_four refl (omega arith), (name, (no_string, (zero_fits _, (one_fits, (one_fits, tt))))))
 
   assembly_fits : RowFits r 32 (0x8004 ∷ get_or r.version 0 0 ∷ get_or r.version 1 0 ∷ get_or r.version 2 0 ∷ get_or r.version 3 0 ∷ 0 ∷ 0 ∷ name_place 10 r.name ∷ 0 ∷ [])
+  unfolding columns_of
   assembly_fits =
       let name : FitsIn (widths r).strings (name_place 10 r.name) = name_in 10 r.name (omega (arith, name_room r)) in
       (in_four refl (omega arith), version_fits r.version (and_right _ _ askable.version) (in_four refl (omega arith), (no_blob, (name, (no_string, tt)))))

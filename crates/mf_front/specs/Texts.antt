@@ -8,7 +8,7 @@ use Rattle.mf_front.specs.declared.outcome.End.TheVariants.{Returned, StepsSpent
 use Rattle.mf_front.specs.declared.outcome.Outcome.{Outcome}
 use Rattle.mf_front.specs.declared.outcome.Outcome.TheVariants.{Usage, Refused, ReadFault, NoMemory, Ran}
 
--- each text ends with a line end
+-- each line ends so
 abbrev pub line_end : List ℕ
 line_end = 10 ∷ []
 
@@ -33,11 +33,11 @@ text_of Usage = usage_text
 text_of (Refused fault file) = refused_text fault file
 text_of (ReadFault file) = codes "read fault: " ++ file ++ line_end
 text_of NoMemory = codes "no memory" ++ line_end
-text_of (Ran end) = end_text end
+text_of (Ran status text) = text
 
 abbrev pub status_of : Outcome → ℕ
 status_of Usage = 1
 status_of (Refused fault file) = 2
 status_of (ReadFault file) = 6
 status_of NoMemory = 8
-status_of (Ran end) = 0
+status_of (Ran status text) = status

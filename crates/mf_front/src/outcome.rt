@@ -1,7 +1,7 @@
 //! What a call comes to.
 
 use plain_types::fault::Fault;
-use plain_types::list::Text;
+use plain_types::list::{Items, Text};
 
 /// How a run ended.
 #[derive(Clone, Copy, Debug, PartialEq, Eq)]
@@ -23,6 +23,6 @@ pub enum Outcome {
     ReadFault { file: Text },
     /// The host has no memory left.
     NoMemory,
-    /// A run ended.
-    Ran(End),
+    /// A run ended, with this status and this finished text.
+    Ran { status: u8, text: Items<u8> },
 }

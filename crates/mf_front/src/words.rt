@@ -5,8 +5,8 @@ ghost use Rattle.std.specs.String.{string_bytes};
 ghost use Rattle.mf_front.specs.Words.{is_option, job_of};
 
 use crate::jobs::{Job, JobRefusal};
-use plain_types::list::Text;
 use numerals::numeral::number;
+use plain_types::list::Text;
 use std::alloc::Global;
 
 /// Whether a word has two or more characters and begins with a hyphen.
@@ -35,45 +35,5 @@ pub fn job(alloc: Global, words: &[String]) -> Result<Job, JobRefusal>
             Ok(Job::Run1 { file, steps })
         }
         None => Err(JobRefusal::NoJob),
-    }
-}
-
-#[cfg(test)]
-mod tests {
-    use super::*;
-    use std::test::Fail;
-
-    /// Words, and the file and steps that they ask for.
-    #[test]
-    fn words_are_jobs_or_none(rt: HostRuntime) -> Result<(), Fail> {
-        let asked: [(&[&str], Option<(&str, u64)>); 8] = [
-            (&["run1", "a.dll", "6"], Some(("a.dll", 6))),
-            (
-                &["run1", "-", "18446744073709551615"],
-                Some(("-", u64::MAX)),
-            ),
-            (&["run1", "-a", "6"], None),
-            (&["run1", "a.dll", "01"], None),
-            (&["run1", "a.dll", "18446744073709551616"], None),
-            (&["run1", "a.dll"], None),
-            (&["run1", "a.dll", "6", "7"], None),
-            (&[], None),
-        ];
-        for (words, wanted) in asked {
-            let mut owned = Vec::new(rt.alloc());
-            for word in words {
-                owned.push(String::from_str(rt.alloc(), word)?)?;
-            }
-            match job(rt.alloc(), &owned) {
-                Ok(Job::Run1 { file, steps }) => {
-                    assert_eq!(rt; Some((file.as_str(), steps)), wanted);
-                }
-                Err(refusal) => {
-                    assert_eq!(rt; refusal, JobRefusal::NoJob);
-                    assert!(rt; wanted.is_none());
-                }
-            }
-        }
-        Ok(())
     }
 }

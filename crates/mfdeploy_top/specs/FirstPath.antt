@@ -13,6 +13,7 @@ use Rattle.mf_front.specs.declared.outcome.End.{End}
 use Rattle.mf_front.specs.declared.outcome.End.TheVariants.{Returned, StepsSpent}
 use Rattle.mf_front.specs.declared.outcome.Outcome.{Outcome}
 use Rattle.mf_front.specs.declared.outcome.Outcome.TheVariants.{Usage, Refused, ReadFault, NoMemory, Ran}
+use Rattle.mf_front.specs.Texts.{end_text}
 use Rattle.mfdeploy_top.specs.FirstForm.{first_code}
 
 -- the refusal of a file that breaks none of rules 1 to 13 and hasn't the first form
@@ -37,7 +38,7 @@ run_of code steps = end_of (if nat_le (first_count code) steps then first_value 
 
 -- what a file's bytes come to
 abbrev pub answer_for : Result (List ℕ) Fault → List ℕ → ℕ → Outcome
-answer_for (Ok code) file steps = Ran (run_of code steps)
+answer_for (Ok code) file steps = Ran 0 (end_text (run_of code steps))
 answer_for (Err fault) file steps = Refused fault file
 
 abbrev pub answer_of : List ℕ → List ℕ → ℕ → Outcome

@@ -1,29 +1,39 @@
 //! The job `run1`.
 
-ghost use Rattle.std.specs.Prelude.{◌≡◌, map};
+ghost use Rattle.std.specs.Prelude.{◌≡◌, ◌⊎◌, map};
 ghost use Rattle.std.specs.String.{string_bytes};
 ghost use Rattle.mf_types.specs.Files.{FilesStay};
+ghost use Rattle.mf_front.specs.Texts.{end_text};
 ghost use Rattle.mf_front.specs.Words.{job_of};
 ghost use Rattle.mfdeploy_top.specs.FirstPath.{ComesTo, answer_of};
 
 use crate::form::code_of;
-use mf_front::jobs::{Job, JobRefusal};
-use mf_front::outcome::{End, Outcome};
-use mf_front::words::job;
-use plain_types::list::Text;
+use mf_front::{End, Job, JobRefusal, Outcome, end_line, job};
 use mf_types::store::{Store, StoreErr};
+use plain_types::fault::NoMemory;
+use plain_types::list::Text;
 use std::alloc::Global;
 use tiny_interp::postfix::run1;
 
+/// What a run's end comes to.
+fn ran(alloc: Global, end: End) -> Outcome
+    ensures { (result ≡ Outcome.Ran 0 (end_text end)) ⊎ (result ≡ Outcome.NoMemory) }
+{
+    match end_line(alloc, end) {
+        Ok(text) => Outcome::Ran { status: 0, text },
+        Err(NoMemory) => Outcome::NoMemory,
+    }
+}
+
 /// What a file's bytes come to.
-fn answer(bytes: &[u8], file: Text, steps: u64) -> Outcome
-    ensures { result ≡ answer_of bytes.now file steps }
+fn answer(alloc: Global, bytes: &[u8], file: Text, steps: u64) -> Outcome
+    ensures { (result ≡ answer_of bytes.now file steps) ⊎ (result ≡ Outcome.NoMemory) }
 {
     match code_of(bytes) {
         Err(fault) => Outcome::Refused { fault, file },
         Ok(code) => match run1(code, steps) {
-            Some(value) => Outcome::Ran(End::Returned(value)),
-            None => Outcome::Ran(End::StepsSpent),
+            Some(value) => ran(alloc, End::Returned(value)),
+            None => ran(alloc, End::StepsSpent),
         },
     }
 }
@@ -35,7 +45,7 @@ fn run_file<S: Store>(alloc: Global, file: Text, steps: u64, store: &mut S) -> O
     ensures files_stay { FilesStay (S.held store.old) (S.held store.new) }
 {
     match store.read(alloc, file.as_str()) {
-        Ok(bytes) => answer(bytes.as_slice(), file, steps),
+        Ok(bytes) => answer(alloc, bytes.as_slice(), file, steps),
         Err(StoreErr::Failed) => Outcome::ReadFault { file },
         Err(StoreErr::NoMemory) => Outcome::NoMemory,
     }

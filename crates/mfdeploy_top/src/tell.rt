@@ -4,8 +4,7 @@ ghost use Rattle.std.specs.Prelude.{◌⊎◌, ◌≤◌, codes, ◌++◌};
 ghost use Rattle.mfdeploy_top.specs.Writing.{Ends, EndsWith};
 
 use crate::writing::write_text;
-use mf_front::outcome::Outcome;
-use mf_front::texts::{no_memory_text, status, text};
+use mf_front::{Outcome, no_memory_text, status, text};
 use mf_types::sink::Sink;
 use std::alloc::Global;
 
@@ -31,7 +30,7 @@ pub fn tell<K: Sink>(alloc: Global, outcome: &Outcome, sink: &mut K) -> u8
     match text(alloc, outcome) {
         Ok(text) => {
             let status = status(outcome);
-            written(sink, text.as_bytes(), status)
+            written(sink, text.as_slice(), status)
         }
         Err(_) => written(
             sink,
