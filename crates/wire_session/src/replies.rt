@@ -3,11 +3,11 @@
 ghost use Rattle.std.specs.Prelude.{◌≡◌, ◌<◌, length};
 ghost use Rattle.wire_session.specs.Replies.{numbers_fit, is_end, is_start, has_asked_length, banks_fit, is_banks, stops_nowhere, state_fits, is_state, is_shown, fits, answers, matches};
 
+use little_endian::u32_at;
 use wire_packets::command::{
     BAD_CODE, BAD_SET, BANKS, BREAK, CLOSE, CONTINUE, DONE, ENDED, ERASE, FETCH, FLASH_FAILED,
     FRAME, HELLO, NO_MEMORY, NO_SET, OPEN, PROGRAM, READ, RUN, START, UNRESOLVED, VALUE,
 };
-use wire_packets::decoding::u32_at;
 use wire_packets::packet::{Packet, REPLY};
 use wire_packets::payload::{
     BANKS_BANK, BANKS_KIND, BANKS_MARKS, BANKS_NUMBER, BANKS_SIZE, END_FIRST, END_KIND, END_SECOND,
