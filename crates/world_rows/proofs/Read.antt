@@ -15,7 +15,7 @@ use Rattle.machine.specs.Throw.{on_some}
 use Rattle.machine.specs.Texts.{same_text}
 use Rattle.classes.specs.Classes.{TypeKind, Reference, Builtin, Enumeration, OtherValue, Class, Classes}
 use Rattle.classes.specs.Queries as queries
-use Rattle.classes.specs.Queries.{basic_name, some_eq}
+use Rattle.classes.specs.Queries.{basic_name, elements, some_eq}
 use Rattle.classes.specs.Reading.{IsRead}
 use Rattle.assemblies.specs.Rows.{TypeToken, TypeRow, Assembly}
 use Rattle.assemblies.specs.Binding.{id_at, numbered, resolve, class_with, class_at, classes_of}
@@ -25,7 +25,7 @@ use Rattle.assemblies.proofs.Back.{get_within, get_there}
 use Rattle.assemblies.proofs.Belong.{some_map, owner, entry}
 use Rattle.world_rows.specs.Tokens.{type_defs, methods}
 use Rattle.world_rows.specs.Rows.{list_first, list_end, list_count, type_row, alone}
-use Rattle.world_rows.specs.Kinds.{system_type, elements, is_class_of, element_of, type_at, superclass_of, extends, is_enum, is_value, enum_element, number_of, derived_kind, kind_by, kind_of}
+use Rattle.world_rows.specs.Kinds.{system_type, is_class_of, element_of, type_at, superclass_of, extends, is_enum, is_value, enum_element, number_of, derived_kind, kind_by, kind_of}
 use Rattle.world_rows.specs.World.{type_count, reference_count, size_of, assembly_with, rows_alone, assemblies_of, ecma_sources}
 use Rattle.world_rows.specs.Read.{TypesStand, KnowsBase}
 use Rattle.world_rows.proofs.Alone.{resolve_alone}
@@ -145,7 +145,7 @@ module _ (files : List FilePart) where
     pub is_row : slice_get (rows_of file.metadata type_defs) c.row ≡ Some row
     pub is : z ≡ class_with size (assemblies_of files) c.file (whole c.file file) (type_row file.metadata (λ n. kind_of size ps (id_at c.file n)) c.row row)
 
-  class_row : (c : Id) (z : Class) → cs.class c ≡ Some z → ClassRow c z
+  pub class_row : (c : Id) (z : Class) → cs.class c ≡ Some z → ClassRow c z
   class_row c z e = by (slice_get files c.file) refl (sym (ap (λ o. on_some o (λ p. option_map (class_with size (assemblies_of files) c.file p) (slice_get p.types c.row))) (whole_at c.file)) ∙ e)
     where
       types : FilePart → List TypeRow
