@@ -50,9 +50,10 @@ numbered_there file ts n t e =
     get_numbered (λ n (t : TypeRow). id_at file n) 0 n ts ∙ (ap (option_map (λ (t : TypeRow). id_at file (0 + n))) e ∙ ap (λ z. Some (id_at file z)) same)
 
 row_there : (x : FilePart) (n : ℕ) (row : List ℕ) → slice_get (rows_of x.metadata type_defs) n ≡ Some row → (t : TypeRow) × (slice_get (alone x).types n ≡ Some t)
-row_there x n row e =
-    (type_row x.metadata (λ n. Reference) (0 + n) row,
-    get_numbered (type_row x.metadata (λ n. Reference)) 0 n (rows_of x.metadata type_defs) ∙ ap (option_map (type_row x.metadata (λ n. Reference) (0 + n))) e)
+row_there x n row e = (
+  type_row x.metadata (λ n. Reference) (0 + n) row,
+  get_numbered (type_row x.metadata (λ n. Reference)) 0 n (rows_of x.metadata type_defs) ∙ ap (option_map (type_row x.metadata (λ n. Reference) (0 + n))) e,
+)
 
 first_types : (a b : FilePart) (xs : List FilePart) → HasTypes (ecma_sources (a ∷ (b ∷ xs))).classes (types_in a b)
 first_types a b xs c k user there = by c.file refl
@@ -69,9 +70,10 @@ first_types a b xs c k user there = by c.file refl
     by (suc zero) is =
         let here : Some b ≡ Some r.file = sym (ap (slice_get (a ∷ (b ∷ xs))) is) ∙ r.is_file in
         let same : r.file ≡ b = (let h = sym here in cc h) in
-        let t = row_there b c.row r.row (subst (λ (z : FilePart). slice_get (rows_of z.metadata type_defs) c.row ≡ Some r.row) same r.is_row) in
-        (length (numbered (λ n (t : TypeRow). id_at 0 n) 0 (alone a).types) + c.row,
-        get_right (numbered (λ n (t : TypeRow). id_at 0 n) 0 (alone a).types) (numbered (λ n (t : TypeRow). id_at 1 n) 0 (alone b).types) c.row ∙ (numbered_there 1 (alone b).types c.row t.0 t.1 ∙ ap (λ f. Some (id_at f c.row)) (sym is)))
+        let t = row_there b c.row r.row (subst (λ (z : FilePart). slice_get (rows_of z.metadata type_defs) c.row ≡ Some r.row) same r.is_row) in (
+          length (numbered (λ n (t : TypeRow). id_at 0 n) 0 (alone a).types) + c.row,
+          get_right (numbered (λ n (t : TypeRow). id_at 0 n) 0 (alone a).types) (numbered (λ n (t : TypeRow). id_at 1 n) 0 (alone b).types) c.row ∙ (numbered_there 1 (alone b).types c.row t.0 t.1 ∙ ap (λ f. Some (id_at f c.row)) (sym is)),
+        )
     by (suc (suc f)) is = absurd (let users : is_user c ≡ true = ap (λ z. nat_le 2 z) is ∙ le-leb 2 (suc (suc f)) (omega arith) in both_ways (is_user c) user users)
 
 -- ---- the facts
