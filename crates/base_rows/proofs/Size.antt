@@ -30,8 +30,6 @@ use Rattle.world_rows.specs.Natives.{body_of_native}
 use Rattle.world_rows.specs.World.{assemblies_of}
 use Rattle.base_rows.specs.Base.{library_file}
 use Rattle.base_rows.specs.Facts.{base, sources}
-
-
 use Rattle.std.proofs.Common.{◌-◌, ◌≤◌, ap, arith}
 use Rattle.std.specs.Prelude.{nat_le}
 use Rattle.std.proofs.lemmas.Bool.{leb-true}

@@ -1,5 +1,5 @@
 -- Facts of the base library in a world with any other files behind it. Each computes.
-use Rattle.std.specs.Prelude.{codes, ℕ, suc, ◌==◌, ◌+◌, Bool, true, false, ◌&&◌, ◌||◌, not, if◌then◌else◌, List, [], ◌∷◌, map, length, slice_get, is_some}
+use Rattle.std.specs.Prelude.{codes, ℕ, zero, suc, ◌++◌, ◌==◌, ◌+◌, Bool, true, false, ◌&&◌, ◌||◌, not, if◌then◌else◌, List, [], ◌∷◌, map, length, slice_get, is_some}
 use Rattle.std.specs.List.{filter, find, list_all, range_with_len}
 use Rattle.std.specs.Option.{option_map_or}
 use Rattle.base_tables.specs.Shape.{Item}
@@ -8,6 +8,7 @@ use Rattle.base_tables.specs.declared.shape.Entry.TheVariants.{Method}
 use Rattle.base_tables.specs.declared.shape.Work.{Work}
 use Rattle.base_tables.specs.declared.shape.Work.TheVariants as work
 use Rattle.file_tables.specs.File.{FilePart}
+use Rattle.plain_types.specs.declared.elem.Elem.{Elem}
 use Rattle.machine.specs.Data.{Id, elem_number}
 use Rattle.machine.specs.Texts.{same_text}
 use Rattle.machine.specs.Throw.{on_some}
@@ -15,13 +16,15 @@ use Rattle.machine.specs.Program.{NativeName, ObjectToString, EnumEquals, EnumTo
 use Rattle.classes.specs.Classes.{TypeKind, Reference, Builtin, Enumeration, OtherValue, Class, Classes}
 use Rattle.assemblies.specs.Rows.{TypeRow, MethodRow, FieldRow, Assembly}
 use Rattle.assemblies.specs.Binding.{id_at, numbered, expanded, expanded_signature, sources_of}
-use Rattle.world_rows.specs.Kinds.{superclass_of, type_at, elements}
-use Rattle.classes.specs.Queries.{basic_name, known, basic, array}
+use Rattle.world_rows.specs.Kinds.{superclass_of, type_at, system_type, element_of}
+use Rattle.classes.specs.Queries.{basic_name, known, knowns, elements, basic, array, library_class, some_eq}
 use Rattle.classes.specs.Code.{MethodCode, Sources}
 use Rattle.classes.specs.Listed.{line_of}
-use Rattle.board_types.specs.declared.board.Known.{Known}
-use Rattle.board_types.specs.declared.board.Known.TheVariants as exception
 use Rattle.world_rows.specs.World.{size_of, rows_alone, assemblies_of, assembly_with}
+use Rattle.file_tables.specs.Metadata.{MetadataPart, row_count, is_row}
+use Rattle.world_rows.specs.Tokens.{type_defs}
+use Rattle.world_rows.specs.Rows.{alone}
+use Rattle.class_rules.specs.Rules.{holds_some}
 use Rattle.base_rows.specs.Base.{library_file, native_file, is_type_entry}
 
 abbrev pub base : List FilePart → List FilePart
@@ -168,10 +171,32 @@ abbrev pub all_given : ℕ → List FilePart → ℕ → Bool
 all_given k xs f = all_true (numbered (method_given (sources k xs) f) 0 (methods_of (whole k xs) f))
 
 -- the classes that the machine needs by name
-abbrev pub knowns : List Known
-knowns =
-    exception.NullReference ∷ exception.IndexOutOfRange ∷ exception.Overflow ∷ exception.Arithmetic ∷ exception.DivideByZero ∷ exception.InvalidCast
-    ∷ exception.ArrayTypeMismatch ∷ exception.Argument ∷ exception.ArgumentNull ∷ exception.ArgumentOutOfRange ∷ []
-
 abbrev pub has_needed : Classes → Bool
 has_needed cs = list_all (λ k. is_some (known cs k)) knowns && (list_all (λ e. is_some (basic cs e)) elements && is_some (array cs))
+
+-- the types of the two files
+abbrev pub types_in : FilePart → FilePart → List Id
+types_in a b = numbered (λ n (t : TypeRow). id_at 0 n) 0 (alone a).types ++ numbered (λ n (t : TypeRow). id_at 1 n) 0 (alone b).types
+
+abbrev pub base_types : List Id
+base_types = types_in library_file native_file
+
+-- the classes that are known by name are types of the first file, each of one element alone
+abbrev pub is_element : List Assembly → Classes → Elem → Bool
+is_element ps cs e =
+    some_eq (basic cs e) (on_some (basic_name e) (system_type ps))
+    && holds_some (basic cs e) (λ c. holds_some (element_of ps c) (λ g. elem_number g == elem_number e))
+
+abbrev pub is_first : List Assembly → Classes → List ℕ → Bool
+is_first ps cs name = some_eq (library_class cs name) (system_type ps name)
+
+abbrev pub named_well : List Assembly → Classes → Bool
+named_well ps cs = list_all (is_element ps cs) elements && (is_first ps cs (codes "Enum") && is_first ps cs (codes "ValueType"))
+
+-- rule 12 of the rows of types up to one
+abbrev pub stands_to : MetadataPart → ℕ → Bool
+stands_to m zero = is_row m type_defs zero
+stands_to m (suc n) = is_row m type_defs (suc n) && stands_to m n
+
+abbrev pub types_stand : FilePart → Bool
+types_stand f = stands_to f.metadata (row_count f.metadata type_defs)

@@ -1,17 +1,18 @@
 -- What classes have because their first two files are the base library.
-use Rattle.std.specs.Prelude.{◌≡◌, codes, ℕ, ◌+◌, ◌≤◌, true, false, ◌&&◌, not, List, [], ◌∷◌, ◌++◌, map, Option, Some, None, slice_get, is_some}
+use Rattle.std.specs.Prelude.{◌≡◌, codes, ℕ, ◌+◌, ◌≤◌, true, false, ◌&&◌, not, List, [], ◌∷◌, ◌++◌, map, Option, Some, None, slice_get, is_some, Bool}
 use Rattle.std.specs.Option.{option_map}
 use Rattle.board_types.specs.declared.board.Known.{Known}
 use Rattle.plain_types.specs.declared.elem.Elem.{Elem}
 use Rattle.plain_types.specs.declared.elem.Elem.TheVariants as elem
-use Rattle.machine.specs.Data.{Id, id_eq, Basic, ClassOf, ValueOf, ArrayOf, PlaceType, Plain, elem_cell}
-use Rattle.machine.specs.Program.{Native, NativeName, ObjectToString, EnumEquals, EnumToString, ArrayLength, ArrayCopy, StringLength, StringChars, StringConcat, StringSubstring, StringEquals, StringCompare, StringFromChars, StringFromChar, NumberSigned, NumberUnsigned, InitializeArray, DebugPrint}
+use Rattle.machine.specs.Data.{Id, id_eq, Basic, ClassOf, ValueOf, ArrayOf, PlaceType, Plain, elem_cell, To, type_eq}
+use Rattle.machine.specs.Program.{Native, NativeName, ObjectToString, EnumEquals, EnumToString, ArrayLength, ArrayCopy, StringLength, StringChars, StringConcat, StringSubstring, StringEquals, StringCompare, StringFromChars, StringFromChar, NumberSigned, NumberUnsigned, InitializeArray, DebugPrint, Body}
 use Rattle.machine_typed.specs.Typing.{is_number}
-use Rattle.classes.specs.Classes.{Classes, OwnMethod, Signature, Reference, Builtin, Enumeration, OtherValue}
-use Rattle.classes.specs.Queries.{parents, superclass_of, is_interface, own_instance_fields, methods_of, method_at, basic, array, known, library_class, fields, place_of, type_of, kind_of}
+use Rattle.classes.specs.Classes.{Classes, OwnMethod, Signature, Reference, Builtin, Enumeration, OtherValue, Class, TypeKind}
+use Rattle.classes.specs.Queries.{parents, superclass_of, is_interface, own_instance_fields, methods_of, method_at, basic, array, known, library_class, fields, place_of, type_of, kind_of, some_eq, elements, knowns}
 use Rattle.classes.specs.Listed.{this_before}
-use Rattle.class_rules.specs.Rules.{holds_some, is_user, may_be_extended, under_object, is_filled}
+use Rattle.class_rules.specs.Rules.{holds_some, is_user, may_be_extended, under_object, is_filled, only_if, is_none_there}
 use Rattle.class_rules.specs.Made.{is_made}
+use Rattle.std.specs.List.{list_all}
 
 -- what a native takes and gives, with the classes Enum, Array and RuntimeFieldHandle
 abbrev pub word : Elem → PlaceType
@@ -104,3 +105,94 @@ pub record IsBase (cs : Classes) : Type 0 where
   pub throws : (k : Known) → holds_some (known cs k) (λ c. is_made cs c && (under_object cs c && is_some (fields cs c))) ≡ true
   -- natives
   pub natives : (c : Id) (i : ℕ) (m : OwnMethod) (s : Signature) (name : NativeName) → is_user c ≡ false → slice_get (methods_of cs c) i ≡ Some m → m.signature ≡ Some s → m.body ≡ Native name → (this_before cs c s ++ map (place_of cs) s.parameters ≡ native_takes enums arrays handle name) × (option_map (λ r. Plain (type_of cs r)) s.returns ≡ native_gives name)
+
+-- ---- the same as a test, over the types of the two files
+
+abbrev pub where_some : {A : Type 0} → Option A → (A → Bool) → Bool
+where_some None test = true
+where_some (Some x) test = test x
+
+abbrev pub is_alone : Id → List Id → Bool
+is_alone c (d ∷ []) = id_eq c d
+is_alone c _ = false
+
+abbrev pub is_class_kind : Option TypeKind → Bool
+is_class_kind (Some Reference) = true
+is_class_kind _ = false
+
+abbrev pub place_eq : PlaceType → PlaceType → Bool
+place_eq (Plain a) (Plain b) = type_eq a b
+place_eq (To a) (To b) = type_eq a b
+place_eq _ _ = false
+
+abbrev pub places_eq : List PlaceType → List PlaceType → Bool
+places_eq [] [] = true
+places_eq (a ∷ as') (b ∷ bs) = place_eq a b && places_eq as' bs
+places_eq _ _ = false
+
+abbrev pub result_eq : Option PlaceType → Option PlaceType → Bool
+result_eq None None = true
+result_eq (Some a) (Some b) = place_eq a b
+result_eq _ _ = false
+
+module _ (cs : Classes) where
+  abbrev pub extends_low : Id → Bool
+  extends_low c = where_some (superclass_of cs c) (may_be_extended cs)
+
+  abbrev pub is_under : Option Id → Id → Bool
+  is_under top c = some_eq (superclass_of cs c) top
+
+  abbrev pub takes_well : Id → Id → Id → Id → Signature → Body → Bool
+  takes_well enums arrays handle c s (Native name) =
+      places_eq (this_before cs c s ++ map (place_of cs) s.parameters) (native_takes enums arrays handle name)
+      && result_eq (option_map (λ r. Plain (type_of cs r)) s.returns) (native_gives name)
+  takes_well enums arrays handle c s _ = true
+
+  abbrev pub natives_fit : Id → Id → Id → Id → Bool
+  natives_fit enums arrays handle c = list_all (λ m. where_some m.signature (λ s. takes_well enums arrays handle c s m.body)) (methods_of cs c)
+
+  abbrev pub facts : List Id → Id → Id → Id → Id → Id → Id → Id → List Bool
+  facts types object string value enums arrays exception handle =
+      list_all (λ e. is_some (basic cs e)) elements
+      ∷ is_none_there (parents cs object)
+      ∷ is_alone object (parents cs arrays)
+      ∷ is_under (Some object) string
+      ∷ is_under (Some object) value
+      ∷ is_under (Some value) enums
+      ∷ is_under (Some object) exception
+      ∷ list_all (λ e. only_if (is_number (Basic e)) (holds_some (basic cs e) (is_under (Some value)))) elements
+      ∷ not (is_interface cs object)
+      ∷ is_class_kind (kind_of cs value)
+      ∷ is_class_kind (kind_of cs enums)
+      ∷ is_class_kind (kind_of cs arrays)
+      ∷ is_class_kind (kind_of cs exception)
+      ∷ holds_some (cs.class enums) (λ k. k.is_abstract)
+      ∷ holds_some (cs.class string) (λ k. not k.is_abstract)
+      ∷ not (id_eq value arrays)
+      ∷ not (id_eq exception value)
+      ∷ not (id_eq exception arrays)
+      ∷ is_none_there (own_instance_fields cs object)
+      ∷ is_none_there (own_instance_fields cs string)
+      ∷ is_none_there (own_instance_fields cs value)
+      ∷ is_none_there (own_instance_fields cs enums)
+      ∷ is_none_there (own_instance_fields cs arrays)
+      ∷ list_all extends_low types
+      ∷ is_filled cs arrays
+      ∷ list_all (λ k. holds_some (known cs k) (λ c. is_made cs c && (under_object cs c && is_some (fields cs c)))) knowns
+      ∷ list_all (natives_fit enums arrays handle) types
+      ∷ []
+
+  abbrev pub is_base : List Id → Bool
+  is_base types =
+      holds_some (basic cs elem.Object) (λ object.
+      holds_some (basic cs elem.String) (λ string.
+      holds_some (library_class cs (codes "ValueType")) (λ value.
+      holds_some (library_class cs (codes "Enum")) (λ enums.
+      holds_some (array cs) (λ arrays.
+      holds_some (library_class cs (codes "Exception")) (λ exception.
+      holds_some (library_class cs (codes "RuntimeFieldHandle")) (λ handle.
+      list_all (λ b. b) (facts types object string value enums arrays exception handle))))))))
+
+-- the types of the first two files are among these
+abbrev pub HasTypes : Classes → List Id → Type 0
+HasTypes cs types = (c : Id) (k : Class) → is_user c ≡ false → cs.class c ≡ Some k → (i : ℕ) × (slice_get types i ≡ Some c)

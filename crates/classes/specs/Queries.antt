@@ -297,6 +297,11 @@ known_name exception.Argument = codes "ArgumentException"
 known_name exception.ArgumentNull = codes "ArgumentNullException"
 known_name exception.ArgumentOutOfRange = codes "ArgumentOutOfRangeException"
 
+abbrev pub knowns : List Known
+knowns =
+    exception.NullReference ∷ exception.IndexOutOfRange ∷ exception.Overflow ∷ exception.Arithmetic ∷ exception.DivideByZero ∷ exception.InvalidCast
+    ∷ exception.ArrayTypeMismatch ∷ exception.Argument ∷ exception.ArgumentNull ∷ exception.ArgumentOutOfRange ∷ []
+
 abbrev pub basic_name : Elem → Option (List ℕ)
 basic_name elem.Bool = Some (codes "Boolean")
 basic_name elem.Char = Some (codes "Char")
@@ -313,6 +318,11 @@ basic_name elem.Object = Some (codes "Object")
 basic_name elem.Void = None
 basic_name elem.Class = None
 basic_name elem.Value = None
+
+-- the elements that have classes
+abbrev pub elements : List Elem
+elements =
+    elem.Bool ∷ elem.Char ∷ elem.I1 ∷ elem.U1 ∷ elem.I2 ∷ elem.U2 ∷ elem.I4 ∷ elem.U4 ∷ elem.I8 ∷ elem.U8 ∷ elem.String ∷ elem.Object ∷ []
 
 abbrev pub known : Classes → Known → Option Id
 known cs k = library_class cs (known_name k)

@@ -42,16 +42,6 @@ of_builtin_Bool false true false = record { kind = refl; interface = refl; abstr
 of_builtin_Bool false false true = record { kind = refl; interface = refl; abstract = refl; lazy = refl }
 of_builtin_Bool false false false = record { kind = refl; interface = refl; abstract = refl; lazy = refl }
 
-of_enum_Bool : (i a z : Bool) → FlagsRead (TypeKind.Enumeration elem.Bool) i a z
-of_enum_Bool true true true = record { kind = refl; interface = refl; abstract = refl; lazy = refl }
-of_enum_Bool true true false = record { kind = refl; interface = refl; abstract = refl; lazy = refl }
-of_enum_Bool true false true = record { kind = refl; interface = refl; abstract = refl; lazy = refl }
-of_enum_Bool true false false = record { kind = refl; interface = refl; abstract = refl; lazy = refl }
-of_enum_Bool false true true = record { kind = refl; interface = refl; abstract = refl; lazy = refl }
-of_enum_Bool false true false = record { kind = refl; interface = refl; abstract = refl; lazy = refl }
-of_enum_Bool false false true = record { kind = refl; interface = refl; abstract = refl; lazy = refl }
-of_enum_Bool false false false = record { kind = refl; interface = refl; abstract = refl; lazy = refl }
-
 of_builtin_Char : (i a z : Bool) → FlagsRead (TypeKind.Builtin elem.Char) i a z
 of_builtin_Char true true true = record { kind = refl; interface = refl; abstract = refl; lazy = refl }
 of_builtin_Char true true false = record { kind = refl; interface = refl; abstract = refl; lazy = refl }
@@ -61,16 +51,6 @@ of_builtin_Char false true true = record { kind = refl; interface = refl; abstra
 of_builtin_Char false true false = record { kind = refl; interface = refl; abstract = refl; lazy = refl }
 of_builtin_Char false false true = record { kind = refl; interface = refl; abstract = refl; lazy = refl }
 of_builtin_Char false false false = record { kind = refl; interface = refl; abstract = refl; lazy = refl }
-
-of_enum_Char : (i a z : Bool) → FlagsRead (TypeKind.Enumeration elem.Char) i a z
-of_enum_Char true true true = record { kind = refl; interface = refl; abstract = refl; lazy = refl }
-of_enum_Char true true false = record { kind = refl; interface = refl; abstract = refl; lazy = refl }
-of_enum_Char true false true = record { kind = refl; interface = refl; abstract = refl; lazy = refl }
-of_enum_Char true false false = record { kind = refl; interface = refl; abstract = refl; lazy = refl }
-of_enum_Char false true true = record { kind = refl; interface = refl; abstract = refl; lazy = refl }
-of_enum_Char false true false = record { kind = refl; interface = refl; abstract = refl; lazy = refl }
-of_enum_Char false false true = record { kind = refl; interface = refl; abstract = refl; lazy = refl }
-of_enum_Char false false false = record { kind = refl; interface = refl; abstract = refl; lazy = refl }
 
 of_builtin_I1 : (i a z : Bool) → FlagsRead (TypeKind.Builtin elem.I1) i a z
 of_builtin_I1 true true true = record { kind = refl; interface = refl; abstract = refl; lazy = refl }
@@ -242,16 +222,6 @@ of_builtin_String false true false = record { kind = refl; interface = refl; abs
 of_builtin_String false false true = record { kind = refl; interface = refl; abstract = refl; lazy = refl }
 of_builtin_String false false false = record { kind = refl; interface = refl; abstract = refl; lazy = refl }
 
-of_enum_String : (i a z : Bool) → FlagsRead (TypeKind.Enumeration elem.String) i a z
-of_enum_String true true true = record { kind = refl; interface = refl; abstract = refl; lazy = refl }
-of_enum_String true true false = record { kind = refl; interface = refl; abstract = refl; lazy = refl }
-of_enum_String true false true = record { kind = refl; interface = refl; abstract = refl; lazy = refl }
-of_enum_String true false false = record { kind = refl; interface = refl; abstract = refl; lazy = refl }
-of_enum_String false true true = record { kind = refl; interface = refl; abstract = refl; lazy = refl }
-of_enum_String false true false = record { kind = refl; interface = refl; abstract = refl; lazy = refl }
-of_enum_String false false true = record { kind = refl; interface = refl; abstract = refl; lazy = refl }
-of_enum_String false false false = record { kind = refl; interface = refl; abstract = refl; lazy = refl }
-
 of_builtin_Object : (i a z : Bool) → FlagsRead (TypeKind.Builtin elem.Object) i a z
 of_builtin_Object true true true = record { kind = refl; interface = refl; abstract = refl; lazy = refl }
 of_builtin_Object true true false = record { kind = refl; interface = refl; abstract = refl; lazy = refl }
@@ -261,16 +231,6 @@ of_builtin_Object false true true = record { kind = refl; interface = refl; abst
 of_builtin_Object false true false = record { kind = refl; interface = refl; abstract = refl; lazy = refl }
 of_builtin_Object false false true = record { kind = refl; interface = refl; abstract = refl; lazy = refl }
 of_builtin_Object false false false = record { kind = refl; interface = refl; abstract = refl; lazy = refl }
-
-of_enum_Object : (i a z : Bool) → FlagsRead (TypeKind.Enumeration elem.Object) i a z
-of_enum_Object true true true = record { kind = refl; interface = refl; abstract = refl; lazy = refl }
-of_enum_Object true true false = record { kind = refl; interface = refl; abstract = refl; lazy = refl }
-of_enum_Object true false true = record { kind = refl; interface = refl; abstract = refl; lazy = refl }
-of_enum_Object true false false = record { kind = refl; interface = refl; abstract = refl; lazy = refl }
-of_enum_Object false true true = record { kind = refl; interface = refl; abstract = refl; lazy = refl }
-of_enum_Object false true false = record { kind = refl; interface = refl; abstract = refl; lazy = refl }
-of_enum_Object false false true = record { kind = refl; interface = refl; abstract = refl; lazy = refl }
-of_enum_Object false false false = record { kind = refl; interface = refl; abstract = refl; lazy = refl }
 
 pub flags_law : (k : TypeKind) (i a z : Bool) → KindFits k → FlagsRead k i a z
 flags_law TypeKind.Reference i a z h = of_reference i a z
@@ -290,8 +250,8 @@ flags_law (TypeKind.Builtin elem.Object) i a z h = of_builtin_Object i a z
 flags_law (TypeKind.Builtin elem.Void) i a z h = absurd (cc h)
 flags_law (TypeKind.Builtin elem.Class) i a z h = absurd (cc h)
 flags_law (TypeKind.Builtin elem.Value) i a z h = absurd (cc h)
-flags_law (TypeKind.Enumeration elem.Bool) i a z h = of_enum_Bool i a z
-flags_law (TypeKind.Enumeration elem.Char) i a z h = of_enum_Char i a z
+flags_law (TypeKind.Enumeration elem.Bool) i a z h = absurd (cc h)
+flags_law (TypeKind.Enumeration elem.Char) i a z h = absurd (cc h)
 flags_law (TypeKind.Enumeration elem.I1) i a z h = of_enum_I1 i a z
 flags_law (TypeKind.Enumeration elem.U1) i a z h = of_enum_U1 i a z
 flags_law (TypeKind.Enumeration elem.I2) i a z h = of_enum_I2 i a z
@@ -300,8 +260,8 @@ flags_law (TypeKind.Enumeration elem.I4) i a z h = of_enum_I4 i a z
 flags_law (TypeKind.Enumeration elem.U4) i a z h = of_enum_U4 i a z
 flags_law (TypeKind.Enumeration elem.I8) i a z h = of_enum_I8 i a z
 flags_law (TypeKind.Enumeration elem.U8) i a z h = of_enum_U8 i a z
-flags_law (TypeKind.Enumeration elem.String) i a z h = of_enum_String i a z
-flags_law (TypeKind.Enumeration elem.Object) i a z h = of_enum_Object i a z
+flags_law (TypeKind.Enumeration elem.String) i a z h = absurd (cc h)
+flags_law (TypeKind.Enumeration elem.Object) i a z h = absurd (cc h)
 flags_law (TypeKind.Enumeration elem.Void) i a z h = absurd (cc h)
 flags_law (TypeKind.Enumeration elem.Class) i a z h = absurd (cc h)
 flags_law (TypeKind.Enumeration elem.Value) i a z h = absurd (cc h)

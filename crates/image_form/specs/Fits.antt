@@ -7,12 +7,12 @@ use Rattle.image_bytes.specs.Layout.{is_range}
 use Rattle.assemblies.specs.Rows.{TypeToken, RawType, RawKind, RawCatch, RawFinally, RawOther, TypeRefRow, FieldRefRow, MethodRefRow, TypeRow, FieldRow, RawClause, RawCode, MethodRow}
 use Rattle.image_form.specs.Signatures.{type_word, elem_byte, elem_at}
 use Rattle.image_form.specs.Codes.{short, LinesFit}
-use Rattle.image_form.specs.Form.{none_or, or_none, clauses_nest, has_room, Held, name_at, raw_at, signature_at, locals_at, only_array, meaning, Offsets, Manner, scope_word, raw_word, signature_word, locals_word, words, code_bytes}
+use Rattle.image_form.specs.Form.{enum_kind, none_or, or_none, clauses_nest, has_room, Held, name_at, raw_at, signature_at, locals_at, only_array, meaning, Offsets, Manner, scope_word, raw_word, signature_word, locals_word, words, code_bytes}
 
--- an element with a byte of its own
+-- an element with a byte of its own, and of an enum one that is read as its number
 abbrev pub KindFits : TypeKind → Type 0
 KindFits (TypeKind.Builtin e) = elem_at (elem_byte e) ≡ Some e
-KindFits (TypeKind.Enumeration e) = elem_at (elem_byte e) ≡ Some e
+KindFits (TypeKind.Enumeration e) = enum_kind (elem_at (elem_byte e)) ≡ TypeKind.Enumeration e
 KindFits _ = Unit {0}
 
 abbrev pub IsNoLiteral : FieldKind → Type 0

@@ -10,6 +10,7 @@ use Rattle.cil_opcodes.specs.Rows.{row_of}
 use Rattle.machine.specs.Throw.{on_some}
 use Rattle.machine.specs.Program.{Body, NativeName, ObjectToString, EnumEquals, EnumToString, ArrayLength, ArrayCopy, StringLength, StringChars, StringConcat, StringSubstring, StringEquals, StringCompare, StringFromChars, StringFromChar, NumberSigned, NumberUnsigned, InitializeArray, DebugPrint}
 use Rattle.classes.specs.Classes.{FieldKind, TypeKind}
+use Rattle.classes.specs.Queries.{is_integer}
 use Rattle.classes.specs.Code.{CodeClause, Finally}
 use Rattle.classes.specs.Clauses.{lie_well}
 use Rattle.image_bytes.specs.Layout.{is_range}
@@ -109,7 +110,7 @@ type_flags kind interface abstract lazy = kind_word kind + (32 * bit_word interf
 -- on an image from elsewhere an enum without a number's code is another value type
 abbrev pub enum_kind : Option Elem → TypeKind
 enum_kind None = TypeKind.OtherValue
-enum_kind (Some e) = TypeKind.Enumeration e
+enum_kind (Some e) = if is_integer e then TypeKind.Enumeration e else TypeKind.OtherValue
 
 abbrev pub plain_kind : Bool → Option Elem → TypeKind
 plain_kind value (Some e) = TypeKind.Builtin e

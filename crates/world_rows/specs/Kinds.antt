@@ -11,7 +11,7 @@ use Rattle.file_tables.specs.File.{FilePart}
 use Rattle.machine.specs.Data.{Id}
 use Rattle.machine.specs.Throw.{on_some}
 use Rattle.classes.specs.Classes.{TypeKind, Reference, Builtin, Enumeration, OtherValue}
-use Rattle.classes.specs.Queries.{basic_name, some_eq, is_instance_kind, is_integer}
+use Rattle.classes.specs.Queries.{basic_name, elements, some_eq, is_instance_kind, is_integer}
 use Rattle.assemblies.specs.Rows.{RawType, RawSpelt, RawClass, RawValue, RawArray, TypeRow, FieldRow, Assembly, Nowhere}
 use Rattle.assemblies.specs.Binding.{type_in, resolve, range}
 use Rattle.world_rows.specs.Tokens.{class_layouts, field_rvas}
@@ -23,11 +23,6 @@ base_type ps namespace name = type_in ps 0 None (record { scope = Nowhere; names
 
 abbrev pub system_type : List Assembly → List ℕ → Option Id
 system_type ps name = base_type ps (codes "System") name
-
--- the elements that have classes
-abbrev pub elements : List Elem
-elements =
-    elem.Bool ∷ elem.Char ∷ elem.I1 ∷ elem.U1 ∷ elem.I2 ∷ elem.U2 ∷ elem.I4 ∷ elem.U4 ∷ elem.I8 ∷ elem.U8 ∷ elem.String ∷ elem.Object ∷ []
 
 abbrev pub is_class_of : List Assembly → Id → Elem → Bool
 is_class_of ps c e = some_eq (Some c) (on_some (basic_name e) (system_type ps))

@@ -1,10 +1,12 @@
 //! The laws of names in a world.
 ghost use Rattle.std.specs.Prelude.{◌≡◌, ℕ, List, Option, Some, None, slice_get};
 ghost use Rattle.file_tables.specs.File.{FilePart};
+ghost use Rattle.classes.specs.Reading.{IsRead};
 ghost use Rattle.assemblies.specs.Rows.{TypeToken};
 ghost use Rattle.assemblies.specs.Binding.{resolve, expanded, expanded_signature};
 ghost use Rattle.world_rows.specs.Signatures.{faulty_type, faulty_signature};
-ghost use Rattle.world_rows.specs.World.{rows_alone, assemblies_of};
+ghost use Rattle.world_rows.specs.World.{type_count, rows_alone, assemblies_of, ecma_sources};
+ghost use Rattle.world_rows.specs.Read.{TypesStand, KnowsBase};
 
 /// A token names the same class among the assemblies of a world as among the rows of each file alone, by which kinds, natives and the
 /// bytes of data fields are told.
@@ -16,4 +18,10 @@ pub fn names_stay()
 pub fn faulty_signatures_equal_none()
     ensures of_type { (files : List FilePart) (scopes file : ℕ) (x : FilePart) → slice_get files file ≡ Some x → expanded scopes (assemblies_of files) file (faulty_type x.metadata) ≡ None }
     ensures of_method { (files : List FilePart) (scopes file : ℕ) (x : FilePart) → slice_get files file ≡ Some x → expanded_signature scopes (assemblies_of files) file (faulty_signature x.metadata) ≡ None }
+{}
+
+/// The classes of a world have what reading gives, where its rows of types keep rule 12 and its first file has the library's classes:
+/// members belong to one class, and kinds are told by names and superclasses.
+pub fn world_is_read()
+    ensures { (files : List FilePart) → KnowsBase files → TypesStand files → IsRead (type_count (rows_alone files)) (ecma_sources files).classes }
 {}
