@@ -11,7 +11,7 @@ use Rattle.wire_packets.specs.Decoding.{number}
 use Rattle.wire_session.specs.Asking.{is_awaited, waiting_matches, after_reply}
 use Rattle.wire_session.specs.Replies.{matches, answers, fits, is_end, numbers_fit, has_asked_length}
 use Rattle.deploy_model.specs.Banks.{ROOM}
-use Rattle.deploy_model.specs.Deployment.{Plan, plan_for, banks_told, is_spent, operations, Deploying, Next, Asks, IsDeployed, HasFailed, IsSpent, next_of, asks_nth, asks_operation, asks_planned, command_of, payload_of, PIECE}
+use Rattle.deploy_model.specs.Deployment.{Plan, plan_for, banks_told, is_spent, operations, Deploying, Next, Asks, IsDeployed, HasFailed, IsSpent, next_of, asks_nth, asks_operation, asks_planned, asks_told, TOLD_SIZE, command_of, payload_of, PIECE}
 use Rattle.deploy_model.specs.Tool.{Goal, Stage, Deploys, Opens, Runs, Fetches, Closes, IsOver, Finish, FlashFailed, NumbersSpent, NoMemory, HasRun, Tool, asks, is_over, on_next, on_stage, advanced, takes, fetches, fetch_payload, run_payload, text_length}
 use Rattle.deploy_laws.proofs.Counts.{get_inside, few_operations}
 use Rattle.deploy_laws.proofs.Matching.{matches_answers}
@@ -151,28 +151,32 @@ next_goes t d payload so = failed (slice_index payload 0 == FLASH_FAILED)
         operation_next t (record { set = d.set; asked = d.asked; plan = plan_for (banks_told payload) }) 0 (slice_get (operations (plan_for (banks_told payload)) d.set) 0)
         (record { same = so.same; some = so.some; few = so.few; room = so.room; got = so.got; waiting = so.waiting }) two refl
 
+    told_whole : (b : Bool) → d.asked ≡ 2 → Goes t (if b then asks_planned d (banks_told payload) else (HasFailed, d))
+    told_whole true two = planned (is_spent (banks_told payload)) two
+    told_whole false two = ends FlashFailed
+
     behind : (n : ℕ) → 1 ≤ n → (n ≡ 1 → ⊥) → (n ≡ 2 → ⊥) → n ≡ n - 2 + 2
     behind n some one two = omega arith
 
     ne_of : (n m : ℕ) → (n == m) ≡ false → n ≡ m → ⊥
     ne_of n m is same = absurd (true≢false (sym (eq-eqb n m same) ∙ is))
 
-    asked_two : (b : Bool) → (d.asked == 2) ≡ b → (d.asked == 1) ≡ false → Goes t (if b then asks_planned d (banks_told payload) else asks_nth d (d.asked - 2))
-    asked_two true is not_one = planned (is_spent (banks_told payload)) (eqb-true d.asked 2 is)
+    asked_two : (b : Bool) → (d.asked == 2) ≡ b → (d.asked == 1) ≡ false → Goes t (if b then asks_told d payload else asks_nth d (d.asked - 2))
+    asked_two true is not_one = told_whole (length payload == TOLD_SIZE) (eqb-true d.asked 2 is)
     asked_two false is not_one =
         let some = so.some in
         let one = ne_of d.asked 1 not_one in
         let two = ne_of d.asked 2 is in
         operation_next t d (d.asked - 2) (slice_get (operations d.plan d.set) (d.asked - 2)) so (behind d.asked some one two) refl
 
-    asked : (b : Bool) → (d.asked == 1) ≡ b → Goes t (if b then (Asks BANKS [], record { set = d.set; asked = 2; plan = d.plan }) else (if d.asked == 2 then asks_planned d (banks_told payload) else asks_nth d (d.asked - 2)))
+    asked : (b : Bool) → (d.asked == 1) ≡ b → Goes t (if b then (Asks BANKS [], record { set = d.set; asked = 2; plan = d.plan }) else (if d.asked == 2 then asks_told d payload else asks_nth d (d.asked - 2)))
     asked true is =
         let one = eqb-true d.asked 1 is in
         let same = so.same in
         record { counted = (omega arith, omega arith, omega arith, so.room, so.got); down = omega arith; on = inr (omega arith) }
     asked false is = asked_two (d.asked == 2) refl is
 
-    failed : (b : Bool) → Goes t (if b then (HasFailed, d) else (if d.asked == 1 then (Asks BANKS [], record { set = d.set; asked = 2; plan = d.plan }) else (if d.asked == 2 then asks_planned d (banks_told payload) else asks_nth d (d.asked - 2))))
+    failed : (b : Bool) → Goes t (if b then (HasFailed, d) else (if d.asked == 1 then (Asks BANKS [], record { set = d.set; asked = 2; plan = d.plan }) else (if d.asked == 2 then asks_told d payload else asks_nth d (d.asked - 2))))
     failed true = ends FlashFailed
     failed false = asked (d.asked == 1) refl
 

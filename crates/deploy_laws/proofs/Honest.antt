@@ -13,7 +13,7 @@ use Rattle.wire_session.specs.Asking.{Asking, next_request, break_after}
 use Rattle.wire_session.specs.Answering.{nothing_done, act_on}
 use Rattle.wire_session.specs.Replies.{matches, flash_shape}
 use Rattle.deploy_model.specs.Banks.{Format, ROOM, base, number_bytes}
-use Rattle.deploy_model.specs.Deployment.{Plan, plan_for, banks, banks_bytes, banks_told, is_spent, operations, zeroings, fillings, erases, pieces, piece, piece_count, last_operation, eight_zeros, after_all, Deploying, Next, Asks, IsSpent, next_of, asks_nth, asks_operation, asks_planned, command_of, payload_of}
+use Rattle.deploy_model.specs.Deployment.{Plan, plan_for, banks, banks_bytes, banks_told, is_spent, operations, zeroings, fillings, erases, pieces, piece, piece_count, last_operation, eight_zeros, after_all, Deploying, Next, Asks, IsSpent, next_of, asks_nth, asks_operation, asks_planned, asks_told, command_of, payload_of}
 use Rattle.deploy_model.specs.Moments.{IsDeployable}
 use Rattle.deploy_model.specs.Board.{Parts, Works, Did, does, did_asked, did_operation, operation_asked, reply_to}
 use Rattle.deploy_model.specs.Tool.{Work, DeploysAndRuns, Goal, Stage, Tool, Deploys, Opens, Runs, asks, opens, blank, advanced, on_next, run_payload, no_plan, OnlyRuns}
@@ -131,8 +131,8 @@ unfolding advanced next_of
 operation_next t d i o command payload count nth =
     let u = answered t (Deploys d) command payload in
     let place : d.asked - 2 ≡ i + 1 = omega arith in
-    ap (λ (b : Bool). on_next u (if b then (Asks BANKS [], record { set = d.set; asked = 2; plan = d.plan }) else (if d.asked == 2 then asks_planned d (banks_told (DONE ∷ [])) else asks_nth d (d.asked - 2)))) (ne_eqb d.asked 1 (λ h. omega arith))
-    ∙ ap (λ (b : Bool). on_next u (if b then asks_planned d (banks_told (DONE ∷ [])) else asks_nth d (d.asked - 2))) (ne_eqb d.asked 2 (λ h. omega arith))
+    ap (λ (b : Bool). on_next u (if b then (Asks BANKS [], record { set = d.set; asked = 2; plan = d.plan }) else (if d.asked == 2 then asks_told d (DONE ∷ []) else asks_nth d (d.asked - 2)))) (ne_eqb d.asked 1 (λ h. omega arith))
+    ∙ ap (λ (b : Bool). on_next u (if b then asks_told d (DONE ∷ []) else asks_nth d (d.asked - 2))) (ne_eqb d.asked 2 (λ h. omega arith))
     ∙ ap (λ (k : ℕ). on_next u (asks_nth d k)) place
     ∙ ap (λ (x : Option Operation). on_next u (asks_operation d x)) nth
 

@@ -1,6 +1,6 @@
 -- The board's replies to the requests of a deployment are those that the tool waits for.
-use Rattle.std.proofs.Common.{◌≡◌, ◌⊎◌, ℕ, suc, ◌+◌, ◌<◌, ◌≤◌, Bool, true, false, not, ◌&&◌, ◌||◌, List, [], ◌∷◌, ◌++◌, length, Option, Some, None, refl, sym, ap, subst, ◌∙◌, inl, inr, arith}
-use Rattle.std.specs.Prelude.{slice_index, ◌==◌, nat_lt, nat_le, if◌then◌else◌}
+use Rattle.std.proofs.Common.{◌≡◌, ◌⊎◌, ℕ, suc, ◌+◌, ◌-◌, ◌<◌, ◌≤◌, Bool, true, false, not, ◌&&◌, ◌||◌, List, [], ◌∷◌, ◌++◌, length, Option, Some, None, refl, sym, ap, subst, ◌∙◌, inl, inr, arith}
+use Rattle.std.specs.Prelude.{slice_index, slice_get, ◌==◌, nat_lt, nat_le, if◌then◌else◌}
 use Rattle.std.proofs.lemmas.Bool.{and_from, and_parts, or_cases, eq-eqb, eqb-true, true≢false}
 use Rattle.byteorder.specs.Endian.{little_bytes}
 use Rattle.byteorder.specs.Numbers.{little_number-reads_back}
@@ -11,7 +11,7 @@ use Rattle.wire_packets.specs.declared.command.TheConstants.{OPEN, PROGRAM, ERAS
 use Rattle.wire_packets.specs.Decoding.{number}
 use Rattle.wire_session.specs.Replies.{matches, answers, fits, is_banks, banks_fit, flash_shape}
 use Rattle.deploy_model.specs.Banks.{Format, Found, Located, choose, is_set, is_late, number_in, bank_of}
-use Rattle.deploy_model.specs.Deployment.{Banks, banks, banks_bytes, marks_of, Deploying, CanTake}
+use Rattle.deploy_model.specs.Deployment.{Banks, banks, banks_bytes, banks_told, marks_of, is_spent, plan_for, operations, Deploying, Asks, HasFailed, IsSpent, next_of, asks_operation, asks_nth, asks_planned, asks_told, TOLD_SIZE}
 use Rattle.deploy_model.specs.Board.{operation_asked, program_asked, erase_asked, reply_to}
 use Rattle.deploy_laws.proofs.Found.{selected, choose_is}
 use Rattle.deploy_laws.proofs.Told.{banks_small}
@@ -146,12 +146,41 @@ answers_banks last p (status ∷ body) command is no_want = by (status == DONE) 
           | inr want ↦ absurd (no_want (eqb-true status NO_MEMORY want))
         ]
 
--- a reply that the tool took, other than want of memory, can be handed to the deployment
-pub can_take : (last : Option ℕ) (d : Deploying) (p r : Packet) → matches last p r ≡ true → 1 ≤ d.asked → (d.asked ≡ 2 → p.command ≡ BANKS) → (slice_index r.payload.items 0 ≡ NO_MEMORY → ⊥) → CanTake d r.payload.items
-can_take last d p r is asked command no_want =
-    let answered = matches_answers last p r is in
-    record {
-      asked = asked;
-      some = answers_long last p r.payload.items answered;
-      banks = λ two. answers_banks last p r.payload.items (command two) answered no_want;
-    }
+-- a deployment that is told as failed had a reply that tells of a failure of the flash
+operation_never : (d : Deploying) (o : Option Operation) → (asks_operation d o).0 ≡ HasFailed → ⊥
+operation_never d None is = absurd (cc)
+operation_never d (Some op) is = absurd (cc)
+
+pub failed_by_flash : (last : Option ℕ) (d : Deploying) (p r : Packet) → matches last p r ≡ true → (d.asked ≡ 2 → p.command ≡ BANKS) → (slice_index r.payload.items 0 ≡ NO_MEMORY → ⊥)
+    → (next_of d (Some r.payload.items)).0 ≡ HasFailed → slice_index r.payload.items 0 ≡ FLASH_FAILED
+unfolding next_of
+failed_by_flash last d p r is command no_want failed = by_status (slice_index payload 0 == FLASH_FAILED) refl failed
+  where
+    payload : List ℕ
+    payload = r.payload.items
+
+    planned : (b : Bool) → (if b then (IsSpent, d) else asks_nth (record { set = d.set; asked = d.asked; plan = plan_for (banks_told payload) }) 0).0 ≡ HasFailed → slice_index payload 0 ≡ FLASH_FAILED
+    planned true e = absurd (cc)
+    planned false e = absurd (operation_never (record { set = d.set; asked = d.asked; plan = plan_for (banks_told payload) }) (slice_get (operations (plan_for (banks_told payload)) d.set) 0) e)
+
+    told : (b : Bool) → (length payload == TOLD_SIZE) ≡ b → d.asked ≡ 2 → (if b then asks_planned d (banks_told payload) else (HasFailed, d)).0 ≡ HasFailed → slice_index payload 0 ≡ FLASH_FAILED
+    told true long two e = planned (is_spent (banks_told payload)) e
+    told false long two e =
+        elim (answers_banks last p payload (command two) (matches_answers last p r is) no_want) [
+          | inl failure ↦ failure
+          | inr eleven ↦ absurd (true≢false (sym (eq-eqb (length payload) TOLD_SIZE eleven) ∙ long))
+        ]
+
+    by_two : (b : Bool) → (d.asked == 2) ≡ b → (if b then asks_told d payload else asks_nth d (d.asked - 2)).0 ≡ HasFailed → slice_index payload 0 ≡ FLASH_FAILED
+    by_two true two e = told (length payload == TOLD_SIZE) refl (eqb-true d.asked 2 two) e
+    by_two false two e = absurd (operation_never d (slice_get (operations d.plan d.set) (d.asked - 2)) e)
+
+    by_one : (b : Bool) → (if b then (Asks BANKS [], record { set = d.set; asked = 2; plan = d.plan }) else (if d.asked == 2 then asks_told d payload else asks_nth d (d.asked - 2))).0 ≡ HasFailed → slice_index payload 0 ≡ FLASH_FAILED
+    by_one true e = absurd (cc)
+    by_one false e = by_two (d.asked == 2) refl e
+
+    by_status : (b : Bool) → (slice_index payload 0 == FLASH_FAILED) ≡ b
+        → (if b then (HasFailed, d) else (if d.asked == 1 then (Asks BANKS [], record { set = d.set; asked = 2; plan = d.plan }) else (if d.asked == 2 then asks_told d payload else asks_nth d (d.asked - 2)))).0 ≡ HasFailed
+        → slice_index payload 0 ≡ FLASH_FAILED
+    by_status true status e = eqb-true (slice_index payload 0) FLASH_FAILED status
+    by_status false status e = by_one (d.asked == 1) e

@@ -7,7 +7,7 @@ use Rattle.wire_packets.specs.declared.packet.Packet.{Packet}
 use Rattle.wire_packets.specs.declared.command.TheConstants.{OPEN, BANKS, RUN, FETCH, CLOSE, DONE, FLASH_FAILED, NO_MEMORY}
 use Rattle.wire_session.specs.Asking.{next_request}
 use Rattle.deploy_model.specs.Banks.{IsFormat, found, set_in}
-use Rattle.deploy_model.specs.Deployment.{Plan, plan_for, Banks, banks, banks_bytes, banks_told, is_spent, operations, after_all, Deploying, Asks, HasFailed, IsSpent, next_of, asks_nth, asks_operation, asks_planned, command_of, payload_of}
+use Rattle.deploy_model.specs.Deployment.{Plan, plan_for, Banks, banks, banks_bytes, banks_told, is_spent, operations, after_all, Deploying, Asks, HasFailed, IsSpent, next_of, asks_nth, asks_operation, asks_planned, asks_told, TOLD_SIZE, command_of, payload_of}
 use Rattle.deploy_model.specs.Moments.{IsDeployable, Safe, Old}
 use Rattle.deploy_model.specs.Board.{Parts, operation_asked}
 use Rattle.deploy_model.specs.Tool.{Work, DeploysAndRuns, OnlyRuns, Goal, Finish, HasRun, FlashFailed, NumbersSpent, NoMemory, Stage, Deploys, Opens, Runs, Fetches, Closes, IsOver, Tool, text_length, fetches, fetch_payload, run_payload, asks, is_over, on_next, on_stage, advanced}
@@ -249,7 +249,7 @@ open_on : (parts : Parts) (start : List ℕ) (t : Tool) (payload content : List 
 unfolding next_of
 open_on parts start t payload content set d none work deployable same_set one untold same = failed (slice_index payload 0 == FLASH_FAILED)
   where
-    asked : (b : Bool) → (d.asked == 1) ≡ b → Goes parts start t.goal t.asking.asked (on_next t (if b then (Asks BANKS [], record { set = d.set; asked = 2; plan = d.plan }) else (if d.asked == 2 then asks_planned d (banks_told payload) else asks_nth d (d.asked - 2)))) content
+    asked : (b : Bool) → (d.asked == 1) ≡ b → Goes parts start t.goal t.asking.asked (on_next t (if b then (Asks BANKS [], record { set = d.set; asked = 2; plan = d.plan }) else (if d.asked == 2 then asks_told d payload else asks_nth d (d.asked - 2)))) content
     asked true is = (
       refl,
       inl (record {
@@ -262,7 +262,7 @@ open_on parts start t payload content set d none work deployable same_set one un
     )
     asked false is = absurd (true≢false (sym (ap (λ (n : ℕ). n == 1) one.0) ∙ is))
 
-    failed : (b : Bool) → Goes parts start t.goal t.asking.asked (on_next t (if b then (HasFailed, d) else (if d.asked == 1 then (Asks BANKS [], record { set = d.set; asked = 2; plan = d.plan }) else (if d.asked == 2 then asks_planned d (banks_told payload) else asks_nth d (d.asked - 2))))) content
+    failed : (b : Bool) → Goes parts start t.goal t.asking.asked (on_next t (if b then (HasFailed, d) else (if d.asked == 1 then (Asks BANKS [], record { set = d.set; asked = 2; plan = d.plan }) else (if d.asked == 2 then asks_told d payload else asks_nth d (d.asked - 2))))) content
     failed true = rests parts start t FlashFailed [] content none (NeverTouched (let e = one.1 in omega arith) same untold)
     failed false = asked (d.asked == 1) refl
 
@@ -286,15 +286,19 @@ banks_on parts start t payload content set d format size bytes none work deploya
         none work (record { format = format; size = size; bytes = bytes; deployable = deployable; unspent = sym (ap is_spent banks_known) ∙ is })
         same_set two (ap plan_for banks_known) untold (sym (nth_known (plan_for (banks_told payload)) (ap plan_for banks_known))) same (target_small (banks parts.format start))
 
-    asked_two : (b : Bool) → (d.asked == 2) ≡ b → Goes parts start t.goal t.asking.asked (on_next t (if b then asks_planned d (banks_told payload) else asks_nth d (d.asked - 2))) content
-    asked_two true is = planned (is_spent (banks_told payload)) refl
+    told_whole : (b : Bool) → b ≡ true → Goes parts start t.goal t.asking.asked (on_next t (if b then asks_planned d (banks_told payload) else (HasFailed, d))) content
+    told_whole true is = planned (is_spent (banks_told payload)) refl
+    told_whole false is = absurd (true≢false (sym is))
+
+    asked_two : (b : Bool) → (d.asked == 2) ≡ b → Goes parts start t.goal t.asking.asked (on_next t (if b then asks_told d payload else asks_nth d (d.asked - 2))) content
+    asked_two true is = told_whole (length payload == TOLD_SIZE) (ap (λ (xs : List ℕ). length xs == TOLD_SIZE) told)
     asked_two false is = absurd (true≢false (sym (ap (λ (n : ℕ). n == 2) two.0) ∙ is))
 
-    asked : (b : Bool) → (d.asked == 1) ≡ b → Goes parts start t.goal t.asking.asked (on_next t (if b then (Asks BANKS [], record { set = d.set; asked = 2; plan = d.plan }) else (if d.asked == 2 then asks_planned d (banks_told payload) else asks_nth d (d.asked - 2)))) content
+    asked : (b : Bool) → (d.asked == 1) ≡ b → Goes parts start t.goal t.asking.asked (on_next t (if b then (Asks BANKS [], record { set = d.set; asked = 2; plan = d.plan }) else (if d.asked == 2 then asks_told d payload else asks_nth d (d.asked - 2)))) content
     asked true is = absurd (true≢false (sym is ∙ ap (λ (n : ℕ). n == 1) two.0))
     asked false is = asked_two (d.asked == 2) refl
 
-    failed : (b : Bool) → (slice_index payload 0 == FLASH_FAILED) ≡ b → Goes parts start t.goal t.asking.asked (on_next t (if b then (HasFailed, d) else (if d.asked == 1 then (Asks BANKS [], record { set = d.set; asked = 2; plan = d.plan }) else (if d.asked == 2 then asks_planned d (banks_told payload) else asks_nth d (d.asked - 2))))) content
+    failed : (b : Bool) → (slice_index payload 0 == FLASH_FAILED) ≡ b → Goes parts start t.goal t.asking.asked (on_next t (if b then (HasFailed, d) else (if d.asked == 1 then (Asks BANKS [], record { set = d.set; asked = 2; plan = d.plan }) else (if d.asked == 2 then asks_told d payload else asks_nth d (d.asked - 2))))) content
     failed true is = rests parts start t FlashFailed [] content none (NeverTouched (let e = two.1 in omega arith) same untold)
     failed false is = asked (d.asked == 1) refl
 
@@ -317,16 +321,16 @@ operation_on parts start t payload content set d i none work can same_set count 
     nth : slice_get (ops parts start set) (i + 1) ≡ slice_get (operations d.plan d.set) (d.asked - 2)
     nth = sym (ap (λ (p : Plan). slice_get (operations p d.set) (d.asked - 2)) plan ∙ ap (λ (x : List ℕ). slice_get (operations (plan_at parts start) x) (d.asked - 2)) same_set ∙ ap (λ (n : ℕ). slice_get (ops parts start set) n) place)
 
-    asked_two : (b : Bool) → (d.asked == 2) ≡ b → Goes parts start t.goal t.asking.asked (on_next t (if b then asks_planned d (banks_told payload) else asks_nth d (d.asked - 2))) content
+    asked_two : (b : Bool) → (d.asked == 2) ≡ b → Goes parts start t.goal t.asking.asked (on_next t (if b then asks_told d payload else asks_nth d (d.asked - 2))) content
     asked_two true is = absurd (true≢false (sym is ∙ not_two d.asked i count.0))
     asked_two false is =
         nth_on parts start t set d (i + 1) content (slice_get (operations d.plan d.set) (d.asked - 2)) none work can same_set (let e = count.0 in omega arith, let e = count.1 in omega arith) plan untold nth same (target_small (banks parts.format start))
 
-    asked : (b : Bool) → (d.asked == 1) ≡ b → Goes parts start t.goal t.asking.asked (on_next t (if b then (Asks BANKS [], record { set = d.set; asked = 2; plan = d.plan }) else (if d.asked == 2 then asks_planned d (banks_told payload) else asks_nth d (d.asked - 2)))) content
+    asked : (b : Bool) → (d.asked == 1) ≡ b → Goes parts start t.goal t.asking.asked (on_next t (if b then (Asks BANKS [], record { set = d.set; asked = 2; plan = d.plan }) else (if d.asked == 2 then asks_told d payload else asks_nth d (d.asked - 2)))) content
     asked true is = absurd (true≢false (sym is ∙ not_one d.asked i count.0))
     asked false is = asked_two (d.asked == 2) refl
 
-    failed : (b : Bool) → (slice_index payload 0 == FLASH_FAILED) ≡ b → Goes parts start t.goal t.asking.asked (on_next t (if b then (HasFailed, d) else (if d.asked == 1 then (Asks BANKS [], record { set = d.set; asked = 2; plan = d.plan }) else (if d.asked == 2 then asks_planned d (banks_told payload) else asks_nth d (d.asked - 2))))) content
+    failed : (b : Bool) → (slice_index payload 0 == FLASH_FAILED) ≡ b → Goes parts start t.goal t.asking.asked (on_next t (if b then (HasFailed, d) else (if d.asked == 1 then (Asks BANKS [], record { set = d.set; asked = 2; plan = d.plan }) else (if d.asked == 2 then asks_told d payload else asks_nth d (d.asked - 2))))) content
     failed true is = absurd (true≢false (sym is ∙ not_failed (slice_index payload 0) (slice_index payload 0 == FLASH_FAILED) refl (ap (λ (x : List ℕ). slice_index x 0) done)))
     failed false is = asked (d.asked == 1) refl
 
@@ -336,7 +340,7 @@ failure_on : (parts : Parts) (start : List ℕ) (t : Tool) (payload content : Li
 unfolding next_of
 failure_on parts start t payload content set d i op none work can count untold nth failure stopped = failed (slice_index payload 0 == FLASH_FAILED) refl
   where
-    failed : (b : Bool) → (slice_index payload 0 == FLASH_FAILED) ≡ b → Goes parts start t.goal t.asking.asked (on_next t (if b then (HasFailed, d) else (if d.asked == 1 then (Asks BANKS [], record { set = d.set; asked = 2; plan = d.plan }) else (if d.asked == 2 then asks_planned d (banks_told payload) else asks_nth d (d.asked - 2))))) content
+    failed : (b : Bool) → (slice_index payload 0 == FLASH_FAILED) ≡ b → Goes parts start t.goal t.asking.asked (on_next t (if b then (HasFailed, d) else (if d.asked == 1 then (Asks BANKS [], record { set = d.set; asked = 2; plan = d.plan }) else (if d.asked == 2 then asks_told d payload else asks_nth d (d.asked - 2))))) content
     failed true is = rests parts start t FlashFailed [] content none (Broken set i op work can untold count nth stopped)
     failed false is = absurd (true≢false (sym (ap (λ (x : List ℕ). slice_index x 0 == FLASH_FAILED) failure) ∙ is))
 

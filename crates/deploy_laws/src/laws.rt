@@ -9,7 +9,7 @@ ghost use Rattle.wire_packets.specs.declared.command.TheConstants.{BANKS, DONE, 
 ghost use Rattle.wire_session.specs.Replies.{matches};
 ghost use Rattle.wire_session.specs.Answering.{act_on};
 ghost use Rattle.deploy_model.specs.Banks.{Format, placed, IsFormat, found, set_in, locate, ROOM, BODY, base, MOST_IMAGES, AreImages, joined, images_at, entries, WholeSet};
-ghost use Rattle.deploy_model.specs.Deployment.{Deploying, given_way, CanTake, banks, banks_bytes, plan_for, is_spent, operations, after_all};
+ghost use Rattle.deploy_model.specs.Deployment.{Deploying, HasFailed, next_of, given_way, banks, banks_bytes, plan_for, is_spent, operations, after_all};
 ghost use Rattle.deploy_model.specs.Moments.{Through, IsDeployable, Safe, IsKept};
 ghost use Rattle.deploy_model.specs.Board.{Parts, operation_asked, reply_to};
 ghost use Rattle.deploy_model.specs.World.{World, Event, run, ArePossible, FitsWork, asleep, begins};
@@ -99,10 +99,12 @@ pub fn replies_match()
         matches last p (reply_to p (DONE ∷ banks_bytes (banks f content))) ≡ true }
 {}
 
-/// A reply that the tool waited for, other than want of memory, is one that a deployment can take.
-pub fn awaited_can_be_taken()
-    ensures { (d : Deploying) (last : Option ℕ) (request reply : Packet) → matches last request reply ≡ true → 1 ≤ d.asked → (d.asked ≡ 2 → request.command ≡ BANKS) →
-        (slice_index reply.payload.items 0 ≡ NO_MEMORY → ⊥) → CanTake d reply.payload.items }
+/// A deployment fails by a failure of the flash alone: where it is told as failed at a reply that its last request waited
+/// for, other than want of memory, this reply has status 2.
+pub fn failed_by_the_flash()
+    ensures { (d : Deploying) (last : Option ℕ) (request reply : Packet) → matches last request reply ≡ true → (d.asked ≡ 2 → request.command ≡ BANKS) →
+        (slice_index reply.payload.items 0 ≡ NO_MEMORY → ⊥) → (next_of d (Some reply.payload.items)).0 ≡ HasFailed →
+        slice_index reply.payload.items 0 ≡ FLASH_FAILED }
 {}
 
 /// Over a network that delivers what is sent, and a flash that doesn't fail, a session deploys its set: in two turns and

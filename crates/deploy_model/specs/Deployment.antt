@@ -155,18 +155,19 @@ asks_nth d i = asks_operation d (slice_get (operations d.plan d.set) i)
 abbrev pub asks_planned : Deploying → Banks → Next × Deploying
 asks_planned d b = if is_spent b then (IsSpent, d) else asks_nth (record { set = d.set; asked = d.asked; plan = plan_for b }) 0
 
+-- the length of a reply to Banks that tells them
+abbrev pub TOLD_SIZE : ℕ
+TOLD_SIZE = 11
+
+-- a reply of another length tells nothing, and ends the deployment; none such is awaited
+abbrev pub asks_told : Deploying → List ℕ → Next × Deploying
+asks_told d payload = if length payload == TOLD_SIZE then asks_planned d (banks_told payload) else (HasFailed, d)
+
 -- Open, Banks, and then the operations of the plan, one after the other; a failure of the flash ends it
 unfoldable pub next_of : Deploying → Option (List ℕ) → Next × Deploying
 next_of d None = (Asks OPEN [], record { set = d.set; asked = 1; plan = d.plan })
 next_of d (Some payload) =
     if slice_index payload 0 == FLASH_FAILED then (HasFailed, d)
     else (if d.asked == 1 then (Asks BANKS [], record { set = d.set; asked = 2; plan = d.plan })
-    else (if d.asked == 2 then asks_planned d (banks_told payload)
+    else (if d.asked == 2 then asks_told d payload
     else asks_nth d (d.asked - 2)))
-
--- the payload of a reply that the last request of a deployment waited for, as far as it matters
-pub record CanTake (d : Deploying) (payload : List ℕ) : Type 0 where
-  pub asked : 1 ≤ d.asked
-  pub some : 1 ≤ length payload
-  -- the reply to Banks is a failure or tells of them
-  pub banks : d.asked ≡ 2 → (slice_index payload 0 ≡ FLASH_FAILED) ⊎ (length payload ≡ 11)
