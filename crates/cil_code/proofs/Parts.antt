@@ -11,9 +11,9 @@ use Rattle.cil_opcodes.specs.Rows.{row_of}
 use Rattle.file_tables.specs.Bytes.{u32_at}
 use Rattle.cil_code.specs.declared.fault.CodeFault.{CodeFault}
 use Rattle.cil_code.specs.declared.fault.TheConstants.{NO_SUCH_OPCODE, PAST_THE_END}
-use Rattle.cil_code.specs.declared.instruction.Instr.{Instr}
-use Rattle.cil_code.specs.declared.instruction.Opcode.{Opcode}
-use Rattle.cil_code.specs.declared.instruction.TheConstants.{TWO_BYTES, SWITCH}
+use Rattle.cil_code.specs.declared.instructions.Instr.{Instr}
+use Rattle.cil_code.specs.declared.instructions.Opcode.{Opcode}
+use Rattle.cil_code.specs.declared.instructions.TheConstants.{TWO_BYTES, SWITCH}
 use Rattle.cil_code.specs.Instructions.{◌>>=◌, fault_at, second_byte, opcode_at, operand_at, operand_len, whole_len, instruction_at, HasTarget}
 
 -- the value of a step that didn't fail

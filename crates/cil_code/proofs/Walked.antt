@@ -2,7 +2,7 @@
 use Rattle.std.proofs.Common.{◌≡◌, ℕ, zero, suc, ◌+◌, ◌-◌, ◌<◌, ◌≤◌, true, false, cond, leb, List, [], length, Some, None, Result, Ok, Err, refl, sym, ap, ◌∙◌, arith}
 use Rattle.std.proofs.lemmas.Bool.{le-leb, lt-leb}
 use Rattle.cil_code.specs.declared.fault.CodeFault.{CodeFault}
-use Rattle.cil_code.specs.declared.instruction.Instr.{Instr}
+use Rattle.cil_code.specs.declared.instructions.Instr.{Instr}
 use Rattle.cil_code.specs.Instructions.{instruction_at}
 use Rattle.cil_code.specs.Walk.{Walk, meets, met_at, walk_within, walk_from}
 use Rattle.cil_code.proofs.Parts.{instruction_fits}

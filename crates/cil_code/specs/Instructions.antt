@@ -7,9 +7,9 @@ use Rattle.cil_opcodes.specs.declared.shape.Operand.TheVariants.{Nothing, Int8, 
 use Rattle.cil_opcodes.specs.Rows.{row_of, width_of}
 use Rattle.file_tables.specs.Bytes.{u16_at, u32_at, u64_at}
 use Rattle.cil_code.specs.declared.fault.CodeFault.{CodeFault}
-use Rattle.cil_code.specs.declared.instruction.Instr.{Instr}
-use Rattle.cil_code.specs.declared.instruction.Opcode.{Opcode}
-use Rattle.cil_code.specs.declared.instruction.TheConstants.{TWO_BYTES, SWITCH}
+use Rattle.cil_code.specs.declared.instructions.Instr.{Instr}
+use Rattle.cil_code.specs.declared.instructions.Opcode.{Opcode}
+use Rattle.cil_code.specs.declared.instructions.TheConstants.{TWO_BYTES, SWITCH}
 use Rattle.cil_code.specs.declared.fault.TheConstants.{NO_SUCH_OPCODE, PAST_THE_END}
 
 infixl 10 ◌>>=◌

@@ -4,7 +4,7 @@ use Rattle.std.specs.Option.{option_or, option_map_or}
 use Rattle.cil_opcodes.specs.Rows.{row_of, is_transfer}
 use Rattle.cil_code.specs.declared.fault.CodeFault.{CodeFault}
 use Rattle.cil_code.specs.declared.fault.TheConstants.{PAST_THE_END}
-use Rattle.cil_code.specs.declared.instruction.Instr.{Instr}
+use Rattle.cil_code.specs.declared.instructions.Instr.{Instr}
 use Rattle.cil_code.specs.Instructions.{instruction_at, fault_at}
 
 -- an instruction and its offset

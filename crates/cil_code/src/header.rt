@@ -4,8 +4,8 @@ ghost use Rattle.std.specs.Prelude.{◌≡◌, ◌+◌, ◌^◌, ◌<◌, ◌≤
 ghost use Rattle.cil_code.specs.Sections.{clauses_in};
 ghost use Rattle.cil_code.specs.Bodies.{clauses_behind, tiny_body, fat_body, body_at, body_of};
 
-use crate::body::Body;
 use crate::fault::{CodeFault, FAULTY_BODY};
+use crate::method_body::Body;
 use crate::sections::clause_total;
 use file_tables::bytes::{u16_at, u32_at};
 

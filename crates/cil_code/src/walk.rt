@@ -2,12 +2,12 @@
 
 ghost use Rattle.std.specs.Prelude.{◌≡◌, ℕ, ◌+◌, ◌^◌, ◌<◌, ◌≤◌, List, [], length, Some, None, Ok, Err};
 ghost use Rattle.cil_code.specs.declared.fault.CodeFault.{CodeFault};
-ghost use Rattle.cil_code.specs.declared.instruction.Instr.{Instr};
+ghost use Rattle.cil_code.specs.declared.instructions.Instr.{Instr};
 ghost use Rattle.cil_code.specs.Instructions.{instruction_at};
 ghost use Rattle.cil_code.specs.Walk.{code_fault, goes_on, meets, reaching, walk_from};
 
 use crate::fault::{CodeFault, PAST_THE_END};
-use crate::instruction::{Instr, instruction};
+use crate::instructions::{Instr, instruction};
 use cil_opcodes::table::row;
 
 /// Whether control can go on behind an instruction (III.1.7.5).

@@ -4,3 +4,6 @@
 
 pub mod shape;
 pub mod table;
+
+pub use shape::{Operand, Shape};
+pub use table::row;

@@ -7,5 +7,7 @@ mod reading;
 pub mod sig;
 pub mod signatures;
 mod stop;
-#[cfg(test)]
-mod tests;
+
+pub use places::{Position, element_place};
+pub use sig::{MethodSig, SigFault, SigType};
+pub use signatures::{field_sig, locals_sig, method_sig, spec_sig};

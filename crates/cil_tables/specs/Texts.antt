@@ -3,7 +3,6 @@ use Rattle.std.specs.Prelude.{◌≡◌, ℕ, ◌+◌, ◌-◌, ◌*◌, ◌/◌
 use Rattle.std.specs.Str.{IsUtf8}
 use Rattle.file_tables.specs.Heaps.{string_at}
 use Rattle.std.specs.List.{position_or_len}
-use Rattle.cil_tables.specs.declared.text_index.TheConstants.{PLACES}
 
 abbrev pub is_zero : ℕ → Bool
 is_zero b = b == 0
@@ -25,7 +24,7 @@ pub record EndsChar (heap : List ℕ) (at end : ℕ) : Type 0 where
 
 -- from a place on, what is known of the places at the starts of blocks is so
 abbrev pub KnowsFrom : List ℕ → ℕ → List Bool → ℕ → Type 0
-KnowsFrom heap block known low = (k : ℕ) → low ≤ k → k < PLACES → slice_index_or known k false ≡ begins heap (k / 4 * block + k % 4)
+KnowsFrom heap block known low = (k : ℕ) → low ≤ k → k < length known → slice_index_or known k false ≡ begins heap (k / 4 * block + k % 4)
 
 -- a place behind another at which a text begins exactly where one begins at the other
 pub record StepsTo (heap : List ℕ) (at next : ℕ) : Type 0 where

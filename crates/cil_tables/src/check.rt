@@ -1,6 +1,6 @@
 //! Rules 12 and 13: what the rows name is there.
 
-ghost use Rattle.std.specs.Prelude.{◌≡◌, ℕ, ◌<◌, ◌≤◌, Some, None, IfErr, OnOk, slice_index, nat_le, max, ◌&&◌, ◌+◌};
+ghost use Rattle.std.specs.Prelude.{◌≡◌, ℕ, ◌<◌, ◌≤◌, Some, None, IfErr, OnOk, slice_index, nat_le, max, ◌&&◌, ◌+◌, length, replicate, false};
 ghost use Rattle.std.specs.List.{flat_map, list_all, enumerate_from};
 ghost use Rattle.file_tables.specs.Schema.{columns_of};
 ghost use Rattle.file_tables.specs.Rules.{first_broken};
@@ -9,10 +9,13 @@ ghost use Rattle.file_tables.specs.Metadata as metadata;
 use crate::fault::{broken, broken_row};
 use crate::row::Row;
 use crate::tables::Tables;
-use crate::text_index::{PLACES, TextIndex};
+use crate::text_index::{MOST_PLACES, SHORTEST, TextIndex};
 use file_tables::numbers::{ASSEMBLY, NO_TABLE};
 use file_tables::schema::{Coded, Column, LOOKED_AT, MOST_COLUMNS, columns};
 use plain_types::fault::Fault;
+
+/// The places of a small table: enough for a heap below 64 KB.
+const FEW_PLACES: usize = 4096;
 
 /// The table that a coded index names, and its row (ECMA-335 II.24.2.6).
 #[derive(Clone, Copy)]
@@ -130,25 +133,46 @@ fn check_tables(tables: &Tables<'_>, texts: &TextIndex<'_>) -> Result<(), Fault>
     ensures kept { OnOk result (first_broken (flat_map (metadata.rules_of_rows tables.now) LOOKED_AT) ≡ None) }
 {
     for table in LOOKED_AT {
-        if let Err(fault) = check_table(tables, texts, table) {
-            return Err(fault);
-        }
+        check_table(tables, texts, table)?;
     }
     Ok(())
 }
 
-/// The first broken rule of 12 and 13, with a table of 256 KB on the stack.
-#[inline(never)]
+/// The first broken rule of 12 and 13, by a blank table of places.
 #[tactic(auto, using(crate::proofs::CheckLaws::broken_rows, crate::proofs::CheckLaws::broken_count, crate::proofs::CheckLaws::all_kept), unfolding(file_tables::specs::Metadata::has_one_assembly))]
-pub fn check_rows(tables: &Tables<'_>) -> Result<(), Fault>
+fn check_with(tables: &Tables<'_>, known: &mut [bool]) -> Result<(), Fault>
+    requires room { 4 ≤ length known.old }
+    requires most { length known.old ≤ MOST_PLACES }
+    requires blank { known.old ≡ replicate (length known.old) false }
     ensures broken { IfErr result (λ fault. first_broken (metadata.rules_of_tables tables.now) ≡ Some fault) }
     ensures kept { OnOk result (first_broken (metadata.rules_of_tables tables.now) ≡ None) }
 {
-    let mut known = [false; PLACES];
-    let texts = TextIndex::new(tables.strings(), &mut known);
+    let texts = TextIndex::new(tables.strings(), known);
     check_tables(tables, &texts)?;
     if tables.rows(ASSEMBLY) != 1 {
         return Err(broken(13, 0));
     }
     Ok(())
+}
+
+/// The first broken rule of 12 and 13, with a table of 256 KB on the stack, which no file with a small heap pays for.
+#[inline(never)]
+fn check_long(tables: &Tables<'_>) -> Result<(), Fault>
+    ensures broken { IfErr result (λ fault. first_broken (metadata.rules_of_tables tables.now) ≡ Some fault) }
+    ensures kept { OnOk result (first_broken (metadata.rules_of_tables tables.now) ≡ None) }
+{
+    let mut known = [false; MOST_PLACES];
+    check_with(tables, &mut known)
+}
+
+/// The first broken rule of 12 and 13.
+pub fn check_rows(tables: &Tables<'_>) -> Result<(), Fault>
+    ensures broken { IfErr result (λ fault. first_broken (metadata.rules_of_tables tables.now) ≡ Some fault) }
+    ensures kept { OnOk result (first_broken (metadata.rules_of_tables tables.now) ≡ None) }
+{
+    if tables.strings().len() / SHORTEST >= FEW_PLACES / 4 {
+        return check_long(tables);
+    }
+    let mut known = [false; FEW_PLACES];
+    check_with(tables, &mut known)
 }

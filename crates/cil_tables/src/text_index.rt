@@ -1,19 +1,30 @@
 //! Where the texts of `#Strings` begin, without going over a long text again for each of many indexes into it.
+//!
+//! The heap falls into blocks of one length. Of the first four places of each block a table tells whether a text begins
+//! there:
+//!
+//! ```text
+//! heap   |....~~~~~~~~~~~~|....~~~~~~~~~~~~|....~~~~~      . in the table   ~ not
+//! table   0123             4567             89..
+//! ```
+//!
+//! A text begins at a place exactly where one begins behind the character that stands there, since a text is characters
+//! up to a zero byte. So a walk from any place, character by character, ends at a zero byte, at bytes that are no
+//! character, or in the next block; a character has at most four bytes, so it comes down on one of that block's first
+//! four places, of which the table knows. The table is filled from its end down, each place by such a walk. A look-up
+//! goes over one block at most, and all of it in time that grows with the heap and the look-ups.
 
-ghost use Rattle.std.specs.Prelude.{◌≡◌, ℕ, ◌+◌, ◌*◌, ◌<◌, ◌≤◌, ◌^◌, length, true, false, slice_index, ◌≢◌, MatchOption, MatchBool, replicate};
+ghost use Rattle.std.specs.Prelude.{◌≡◌, ℕ, ◌+◌, ◌*◌, ◌/◌, ◌<◌, ◌≤◌, ◌^◌, length, true, false, slice_index, ◌≢◌, MatchOption, MatchBool, replicate};
 ghost use Rattle.cil_tables.specs.Texts.{begins, StepsTo, EndsChar, KnowsFrom};
 
 use crate::heap::zero_place;
 use std::marker::Model;
 
-/// The most blocks that a heap falls into.
-const BLOCKS: usize = 65536;
+/// The least bytes of a block; they are more only where the table has too few places for the heap.
+pub const SHORTEST: usize = 64;
 
-/// The least bytes of a block; only in a heap of 4 MiB or more they are longer.
-const SHORTEST: usize = 64;
-
-/// How many places are told of: the first four of each block, since a character has at most four bytes.
-pub const PLACES: usize = 4 * BLOCKS;
+/// The most places that a table tells of, four of each block: enough for blocks of 64 bytes in a heap below 4 MiB.
+pub const MOST_PLACES: usize = 262_144;
 
 /// The bytes from `at` to `end` have no zero byte and are UTF-8.
 fn is_char(heap: &[u8], at: usize, end: usize) -> bool
@@ -22,13 +33,7 @@ fn is_char(heap: &[u8], at: usize, end: usize) -> bool
     ensures { MatchBool result (EndsChar heap.now at end) (EndsChar heap.now at end → ⊥) }
 {
     let bytes = &heap[at..end];
-    match zero_place(bytes) {
-        Some(_) => false,
-        None => match str::from_utf8(bytes) {
-            Ok(_) => true,
-            Err(_) => false,
-        },
-    }
+    zero_place(bytes).is_none() && str::from_utf8(bytes).is_ok()
 }
 
 /// Behind the shortest run of bytes at an offset that is a character; none where no text begins there.
@@ -68,7 +73,7 @@ fn next_place(heap: &[u8], at: usize) -> Option<usize>
 pub struct TextIndex<'a> {
     heap: &'a [u8],
     block: usize,
-    known: &'a [bool; PLACES],
+    known: &'a [bool],
 }
 
 impl<'a> Model for TextIndex<'a> {
@@ -85,12 +90,13 @@ impl<'a> Model for TextIndex<'a> {
 
 /// Whether a text begins at an offset, by what is known of the places behind its block.
 #[inline(never)]
-fn walk(heap: &[u8], block: usize, known: &[bool; PLACES], number: usize, start: usize) -> bool
+fn walk(heap: &[u8], block: usize, known: &[bool], number: usize, start: usize) -> bool
     requires small { length heap.now < 2 ^ 32 }
     requires size { SHORTEST ≤ block }
-    requires bound { block < 2 ^ 32 }
-    requires covers { length heap.now < BLOCKS * block }
-    requires numbered { number < BLOCKS }
+    requires bound { block ≤ 2 ^ 32 }
+    requires most { length known.now ≤ MOST_PLACES }
+    requires covers { length heap.now < length known.now / 4 * block }
+    requires numbered { number < length known.now / 4 }
     requires inside { start < (number + 1) * block }
     requires known { KnowsFrom heap.now block known.now (4 * (number + 1)) }
     ensures { result ≡ begins heap.now start }
@@ -119,12 +125,13 @@ fn walk(heap: &[u8], block: usize, known: &[bool; PLACES], number: usize, start:
 }
 
 /// Whether a text begins at one of the first four places of a block, by what is known of the later places.
-fn walk_on(heap: &[u8], block: usize, known: &[bool; PLACES], number: usize, over: usize) -> bool
+fn walk_on(heap: &[u8], block: usize, known: &[bool], number: usize, over: usize) -> bool
     requires small { length heap.now < 2 ^ 32 }
     requires size { SHORTEST ≤ block }
-    requires bound { block < 2 ^ 32 }
-    requires covers { length heap.now < BLOCKS * block }
-    requires numbered { number < BLOCKS }
+    requires bound { block ≤ 2 ^ 32 }
+    requires most { length known.now ≤ MOST_PLACES }
+    requires covers { length heap.now < length known.now / 4 * block }
+    requires numbered { number < length known.now / 4 }
     requires first { over < 4 }
     requires known { KnowsFrom heap.now block known.now (4 * number + over + 1) }
     ensures { result ≡ begins heap.now (number * block + over) }
@@ -150,12 +157,13 @@ fn walk_on(heap: &[u8], block: usize, known: &[bool; PLACES], number: usize, ove
 }
 
 /// Notes what is known of each block, from the last one that the heap reaches down.
-fn know(heap: &[u8], block: usize, known: &mut [bool; PLACES])
+fn know(heap: &[u8], block: usize, known: &mut [bool])
     requires small { length heap.now < 2 ^ 32 }
     requires size { SHORTEST ≤ block }
-    requires bound { block < 2 ^ 32 }
-    requires covers { length heap.now < BLOCKS * block }
-    requires blank { known.old ≡ replicate PLACES false }
+    requires bound { block ≤ 2 ^ 32 }
+    requires most { length known.old ≤ MOST_PLACES }
+    requires covers { length heap.now < length known.old / 4 * block }
+    requires blank { known.old ≡ replicate (length known.old) false }
     ensures { KnowsFrom heap.now block known.new 0 }
 {
     let mut place = 4 * (heap.len() / block + 1);
@@ -168,17 +176,21 @@ fn know(heap: &[u8], block: usize, known: &mut [bool; PLACES])
 
 impl<'a> TextIndex<'a> {
     /// The index of a heap, in a blank table that it fills in time that grows with the heap alone.
-    pub fn new(heap: &'a [u8], known: &'a mut [bool; PLACES]) -> TextIndex<'a>
+    #[tactic(auto, using(crate::proofs::IndexLaws::block_covers, crate::proofs::IndexLaws::block_bound))]
+    pub fn new(heap: &'a [u8], known: &'a mut [bool]) -> TextIndex<'a>
         requires small { length heap.now < 2 ^ 32 }
-        requires blank { known.old ≡ replicate PLACES false }
+        requires room { 4 ≤ length known.old }
+        requires most { length known.old ≤ MOST_PLACES }
+        requires blank { known.old ≡ replicate (length known.old) false }
         ensures { result ≡ heap.now }
     {
-        let block = SHORTEST.max(heap.len() / BLOCKS + 1);
+        let blocks = known.len() / 4;
+        let block = SHORTEST.max(heap.len() / blocks + 1);
         know(heap, block, known);
         TextIndex { heap, block, known }
     }
 
-    /// Whether a text begins at an offset. It goes over at most one block: 64 bytes in a heap below 4 MiB.
+    /// Whether a text begins at an offset. It goes over at most one block.
     pub fn begins(&self, at: u32) -> bool
         ensures { result ≡ begins self.now at }
     {

@@ -1,3 +1,5 @@
 pub mod Seen
 pub mod Headers
 pub mod Inside
+pub mod Spans
+pub mod InsideCursor

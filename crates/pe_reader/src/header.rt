@@ -5,6 +5,7 @@ ghost use Rattle.file_tables.specs.Pe as pe;
 ghost use Rattle.file_tables.specs.Rules.{rule_at, first_broken};
 ghost use Rattle.pe_reader.specs.Headers.{HasHeaders, HasCliHeader};
 
+use file_tables::MOST_FILE_BYTES;
 use file_tables::bytes::{u16_at, u32_at};
 use plain_types::fault::{Fault, Place, WHOLE_FILE};
 
@@ -17,9 +18,6 @@ pub struct Headers {
     pub sections: usize,
     pub count: u16,
 }
-
-/// The most bytes of a file.
-const MOST_BYTES: usize = 4_194_304;
 
 /// A rule that the file breaks, at an offset.
 pub fn broken(rule: u8, offset: usize) -> Fault
@@ -40,7 +38,7 @@ pub fn broken(rule: u8, offset: usize) -> Fault
 fn begins_as_dos(file: &[u8]) -> bool
     ensures { result ≡ pe.is_dos file.now }
 {
-    file.len() >= 64 && file.len() <= MOST_BYTES && file[0] == 0x4D && file[1] == 0x5A
+    file.len() >= 64 && file.len() <= MOST_FILE_BYTES && file[0] == 0x4D && file[1] == 0x5A
 }
 
 /// Rule 2.
@@ -61,7 +59,7 @@ fn has_directories(file: &[u8], optional: usize, size: u16) -> bool
     requires within { optional ≤ length file.now }
     ensures { result ≡ pe.has_optional_header file.now }
 {
-    size >= 216 && optional + size as usize <= file.len() && u16_at(file, optional) == 0x10B
+    size >= 216 && optional + usize::from(size) <= file.len() && u16_at(file, optional) == 0x10B
 }
 
 /// The first broken rule of 1 to 4, or where the headers stand.
@@ -82,9 +80,9 @@ pub fn read_headers(file: &[u8]) -> Result<Headers, Fault>
     if !has_directories(file, optional, size) {
         return Err(broken(3, optional));
     }
-    let sections = optional + size as usize;
+    let sections = optional + usize::from(size);
     let count = u16_at(file, header + 6);
-    if sections + 40 * count as usize > file.len() {
+    if sections + 40 * usize::from(count) > file.len() {
         return Err(broken(4, sections));
     }
     Ok(Headers {

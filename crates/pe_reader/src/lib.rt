@@ -2,11 +2,11 @@
 #![tactic(auto)]
 
 mod cli;
+mod cursor;
 mod header;
 mod pe;
 mod section;
+mod span;
 
+pub use cursor::SectionCursor;
 pub use pe::{Pe, metadata};
-
-#[cfg(test)]
-mod tests;

@@ -5,8 +5,9 @@ ghost use Rattle.std.specs.Option.{option_copied};
 ghost use Rattle.file_tables.specs.Pe.{pe_of, at_rva, tail};
 
 use crate::cli::cli_header;
+use crate::cursor::SectionCursor;
 use crate::header::{broken, read_headers};
-use crate::section::{place_of_range, section_holding};
+use crate::section::{place_of_range, rest_of, section_holding};
 use file_tables::bytes::u32_at;
 use plain_types::fault::Fault;
 use std::marker::Model;
@@ -88,15 +89,19 @@ impl<'a> Pe<'a> {
     }
 
     /// From the byte at an RVA to the last byte of its section that is in the file; `None` exactly where no section
-    /// holds that byte.
-    #[tactic(auto, using(crate::proofs::PeLaws::take_within), unfolding(file_tables::specs::Pe::pe_part, file_tables::specs::Pe::sections_of))]
+    /// holds that byte. It goes over the sections up to that one; for many bytes there is a [`SectionCursor`].
+    #[tactic(auto, using(crate::proofs::PeLaws::tail_found), unfolding(file_tables::specs::Pe::pe_part, file_tables::specs::Pe::sections_of))]
     pub fn tail(&self, rva: u32) -> Option<&'a [u8]>
         ensures { option_copied result ≡ tail self.now rva }
     {
         let section = section_holding(self.file, self.sections, self.count, rva, 1)?;
-        let skipped = rva - section.address;
-        let at = section.pointer as usize + skipped as usize;
-        let end = self.file.len().min(at + (section.size - skipped) as usize);
-        Some(&self.file[at..end])
+        Some(rest_of(self.file, section, rva))
+    }
+
+    /// A cursor that remembers the section of the byte that was asked for last.
+    pub fn cursor(&self) -> SectionCursor<'a>
+        ensures { result ≡ self.now }
+    {
+        SectionCursor::new(self.file, self.sections, self.count)
     }
 }

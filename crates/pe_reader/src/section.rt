@@ -1,7 +1,8 @@
 //! Section headers, read in place.
 
-ghost use Rattle.std.specs.Prelude.{◌≡◌, ◌+◌, ◌-◌, ◌*◌, ◌≤◌, length, IsTrue, IfSome, Some};
+ghost use Rattle.std.specs.Prelude.{◌≡◌, ◌+◌, ◌-◌, ◌*◌, ◌<◌, ◌≤◌, length, IsTrue, IfSome, Some};
 ghost use Rattle.std.specs.Option.{option_map};
+ghost use Rattle.file_tables.specs.Bytes.{range_of};
 ghost use Rattle.file_tables.specs.Pe.{section_at, holds, section_of, place_in, place_of};
 ghost use Rattle.pe_reader.specs.Seen.{seen, sections_from};
 
@@ -16,7 +17,7 @@ pub struct Section {
 }
 
 /// The section whose header begins at an offset.
-fn read(file: &[u8], at: usize) -> Section
+pub fn read(file: &[u8], at: usize) -> Section
     requires { at + 40 ≤ length file.now }
     ensures { seen result ≡ section_at file.now at }
 {
@@ -42,6 +43,20 @@ fn covers(s: Section, file_length: usize, rva: u32, len: u32) -> bool
     let in_section = rva as u64 + len as u64 <= s.address as u64 + s.size as u64;
     let in_file = s.pointer as u64 + skipped + len as u64 <= file_length as u64;
     in_section && in_file
+}
+
+/// From the byte at an RVA to the last byte of the section that is in the file.
+#[tactic(auto, using(crate::proofs::PeLaws::take_within))]
+pub fn rest_of(file: &[u8], section: Section, rva: u32) -> &[u8]
+    requires begins { section.address ≤ rva }
+    requires within { rva < section.address + section.size }
+    requires ends { section.pointer + (rva - section.address) < length file.now }
+    ensures { result.now ≡ range_of file.now (place_in (seen section) rva) (section.size - (rva - section.address)) }
+{
+    let skipped = rva - section.address;
+    let at = section.pointer as usize + skipped as usize;
+    let end = file.len().min(at + (section.size - skipped) as usize);
+    &file[at..end]
 }
 
 /// The first section, in header order, that holds the range.

@@ -1,6 +1,6 @@
 use Rattle.std.proofs.Common.{Some, ap, sym, ◌∙◌}
 use Rattle.pe_reader.specs.Seen.{seen}
-use Rattle.pe_reader.proofs.PeLaws.{tail_found, take_within}
+use Rattle.pe_reader.proofs.PeLaws.{tail_found}
 use Rattle.file_tables.specs.Pe.{pe_part}
 use Rattle.pe_reader.proofs.pe.Pe.tail.Goals as goal
 
@@ -11,4 +11,4 @@ returns c =
     rw (← c.self.view_is)
     (sym
     (tail_found c.self.inside.file.now c.self.inside.sections c.self.inside.count c.args.rva s c.self.invariant.sections c.self.invariant.count c.in_ok-section.ensures.first
-    ∙ ap Some (sym (rw c.min-end.ensures (take_within c.self.inside.file.now _ _)))))
+    ∙ ap Some (sym c.rest_of.ensures)))

@@ -1,4 +1,6 @@
-use super::*;
+//! The PE part of a small file, and of the files that differ from it in a few bytes.
+
+use pe_reader::{Pe, metadata};
 use plain_types::fault::WHOLE_FILE;
 use std::process::Abort;
 use std::test::*;
@@ -58,6 +60,16 @@ fn has_parts(rt: &impl Abort, pe: &Pe<'_>) {
     assert!(rt; pe.at_rva(u32::MAX, u32::MAX).is_none());
     assert_eq!(rt; pe.tail(0x204A).map_or(0, |rest| rest.len()), 2);
     assert!(rt; pe.tail(0x204C).is_none());
+    let mut cursor = pe.cursor();
+    for (rva, len) in [
+        (0x204A, 2),
+        (0x2000, 76),
+        (0x204C, 0),
+        (0x1FFF, 0),
+        (0x204B, 1),
+    ] {
+        assert_eq!(rt; cursor.tail(rva).map_or(0, |rest| rest.len()), len, "at {rva}");
+    }
 }
 
 /// The rule that the file breaks and its offset; rule 0 where it breaks none.

@@ -1,8 +1,6 @@
-use crate::clause::Clause;
-use crate::fault::{CodeFault, FAULTY_BODY, NO_SUCH_OPCODE, PAST_THE_END};
-use crate::header::body;
-use crate::instruction::{Instr, SWITCH, instruction, switch_target};
-use crate::walk::first_fault;
+//! Bodies and instructions.
+
+use cil_code::{Clause, CodeFault, FAULTY_BODY, Instr, NO_SUCH_OPCODE, PAST_THE_END, SWITCH, body, first_fault, instruction, switch_target};
 use std::test::Fail;
 
 fn fault(rule: u8, offset: u32) -> CodeFault {

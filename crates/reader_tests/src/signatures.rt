@@ -1,6 +1,6 @@
-use crate::places::{Position, element_place};
-use crate::sig::{SigFault, SigType};
-use crate::signatures::{field_sig, locals_sig, method_sig, spec_sig};
+//! Signatures.
+
+use cil_sig::{Position, SigFault, SigType, element_place, field_sig, locals_sig, method_sig, spec_sig};
 use plain_types::elem::Elem;
 use std::test::Fail;
 
