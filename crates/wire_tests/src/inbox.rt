@@ -4,13 +4,13 @@ ghost use Rattle.std.specs.Prelude.{◌≡◌, ◌<◌, true, IfOk, length};
 ghost use Rattle.std.specs.List.{list_all};
 ghost use Rattle.outside_in_memory.specs.Queued.{has_bytes};
 
-use crate::inbox::Inbox;
-use plain_types::fault::NoMemory;
 use mf_types::link::{Coming, Got};
-use plain_types::list::Items;
 use outside_in_memory::memory_link::MemoryLink;
+use packet_inbox::Inbox;
+use plain_types::fault::NoMemory;
+use plain_types::list::Items;
 use std::alloc::Global;
-use wire_packets::packet::Packet;
+use wire_packets::Packet;
 
 /// A damaged byte, Open as the first request, and the first half of Close as the second.
 const FIRST: &[u8] =
