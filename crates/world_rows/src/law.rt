@@ -1,6 +1,8 @@
 //! The laws of names in a world.
-ghost use Rattle.std.specs.Prelude.{◌≡◌, ℕ, List, Option, Some, None, slice_get};
-ghost use Rattle.file_tables.specs.File.{FilePart};
+ghost use Rattle.std.specs.Prelude.{◌≡◌, ℕ, ◌≤◌, true, List, Option, Some, None, Ok, slice_get};
+ghost use Rattle.file_tables.specs.declared.schema.TheConstants.{LOOKED_AT};
+ghost use Rattle.file_tables.specs.Metadata.{row_count, is_row};
+ghost use Rattle.file_tables.specs.File.{FilePart, file_of};
 ghost use Rattle.classes.specs.Reading.{IsRead};
 ghost use Rattle.assemblies.specs.Rows.{TypeToken};
 ghost use Rattle.assemblies.specs.Binding.{resolve, expanded, expanded_signature};
@@ -24,4 +26,10 @@ pub fn faulty_signatures_equal_none()
 /// members belong to one class, and kinds are told by names and superclasses.
 pub fn world_is_read()
     ensures { (files : List FilePart) → KnowsBase files → TypesStand files → IsRead (type_count (rows_alone files)) (ecma_sources files).classes }
+{}
+
+/// The rows of a file that opens keep rule 12, in each table that the rule looks at; so those of the types of a world's files do.
+pub fn opened_rows_stand()
+    ensures rows { (bytes : List ℕ) (x : FilePart) (i table row : ℕ) → file_of bytes ≡ Ok x → slice_get LOOKED_AT i ≡ Some table → row ≤ row_count x.metadata table → is_row x.metadata table row ≡ true }
+    ensures types { (files : List FilePart) → ((file : ℕ) (x : FilePart) → slice_get files file ≡ Some x → (bytes : List ℕ) × (file_of bytes ≡ Ok x)) → TypesStand files }
 {}
