@@ -2,10 +2,12 @@
 use Rattle.std.specs.Prelude.{◌≡◌, ℕ, ◌+◌, ◌-◌, ◌==◌, ◌&&◌, Bool, nat_lt, nat_le, if◌then◌else◌, List, [], ◌∷◌, ◌++◌, length, take, drop, Option, Some, None}
 use Rattle.byteorder.specs.Endian.{little_bytes}
 use Rattle.flash_trait.specs.Flash.{Operation, Program, Erase, after}
+use Rattle.flash_trait.specs.declared.flash.TheConstants.{FLASH_SIZE, SECTORS}
 use Rattle.flash_trait.specs.FlashCalls.{FlashState, Completes, IsFailed}
 use Rattle.wire_packets.specs.declared.packet.Packet.{Packet}
 use Rattle.wire_packets.specs.declared.packet.TheConstants.{REPLY}
 use Rattle.wire_packets.specs.declared.command.TheConstants.{OPEN, READ, PROGRAM, ERASE, RUN, FETCH, CLOSE, BANKS, DONE, NO_REQUEST, FLASH_FAILED, NO_MEMORY}
+use Rattle.wire_packets.specs.declared.payload.TheConstants.{PROGRAM_AT, PROGRAM_BYTES, ERASE_SECTOR, ERASE_SIZE, RANGE_AT, RANGE_LENGTH, RANGE_SIZE, RUN_STEPS, RUN_CELLS, RUN_SIZE}
 use Rattle.wire_packets.specs.Made.{packet_with}
 use Rattle.wire_packets.specs.Decoding.{number}
 use Rattle.wire_session.specs.Replies.{flash_shape}
@@ -27,15 +29,16 @@ pub record Parts : Type 0 where
 
 -- the bytes lie inside the flash
 abbrev pub lies_inside : ℕ → ℕ → Bool
-lies_inside at size = nat_le (at + size) 262144
+lies_inside at size = nat_le (at + size) FLASH_SIZE
 
 abbrev pub program_asked : List ℕ → Option Operation
 program_asked payload =
-    if (nat_le 5 (length payload) && nat_le (length payload) (PIECE + 4)) && lies_inside (number 4 0 payload) (length payload - 4)
-    then Some (Program (number 4 0 payload) (drop 4 payload)) else None
+    if (nat_le (PROGRAM_BYTES + 1) (length payload) && nat_le (length payload) (PIECE + PROGRAM_BYTES)) && lies_inside (number 4 PROGRAM_AT payload) (length payload - PROGRAM_BYTES)
+    then Some (Program (number 4 PROGRAM_AT payload) (drop PROGRAM_BYTES payload)) else None
 
 abbrev pub erase_asked : List ℕ → Option Operation
-erase_asked payload = if (length payload == 4) && nat_lt (number 4 0 payload) 32 then Some (Erase (number 4 0 payload)) else None
+erase_asked payload =
+    if (length payload == ERASE_SIZE) && nat_lt (number 4 ERASE_SECTOR payload) SECTORS then Some (Erase (number 4 ERASE_SECTOR payload)) else None
 
 -- the operation that a request asks for
 unfoldable pub operation_asked : Packet → Option Operation
@@ -66,8 +69,8 @@ did_operation op content text LacksMemory = did (after op content) text (DONE �
 -- a piece of at most 1,016 bytes that lies inside
 abbrev pub piece_of : List ℕ → List ℕ → List ℕ
 piece_of payload bytes =
-    if (length payload == 8) && (nat_le (number 4 4 payload) PIECE && nat_le (number 4 0 payload + number 4 4 payload) (length bytes))
-    then DONE ∷ take (number 4 4 payload) (drop (number 4 0 payload) bytes) else NO_REQUEST ∷ []
+    if (length payload == RANGE_SIZE) && (nat_le (number 4 RANGE_LENGTH payload) PIECE && nat_le (number 4 RANGE_AT payload + number 4 RANGE_LENGTH payload) (length bytes))
+    then DONE ∷ take (number 4 RANGE_LENGTH payload) (drop (number 4 RANGE_AT payload) bytes) else NO_REQUEST ∷ []
 
 abbrev pub if_empty : List ℕ → List ℕ → List ℕ
 if_empty payload reply = if length payload == 0 then DONE ∷ reply else NO_REQUEST ∷ []
@@ -80,13 +83,15 @@ MOST_CELLS = 4194304
 
 -- steps, and cells
 abbrev pub is_run : List ℕ → Bool
-is_run payload = (length payload == 12) && (nat_le 1 (number 4 8 payload) && nat_le (number 4 8 payload) MOST_CELLS)
+is_run payload = (length payload == RUN_SIZE) && (nat_le 1 (number 4 RUN_CELLS payload) && nat_le (number 4 RUN_CELLS payload) MOST_CELLS)
+
+-- how the content ends by the run that is asked for
+abbrev pub run_asked : Parts → List ℕ → List ℕ → Ended
+run_asked parts content payload = parts.runs content (number 8 RUN_STEPS payload) (number 4 RUN_CELLS payload)
 
 abbrev pub did_run : Parts → List ℕ → List ℕ → List ℕ → Outcome → Did
-did_run parts content text payload Works =
-    did content (parts.runs content (number 8 0 payload) (number 4 8 payload)).text (DONE ∷ end_bytes (parts.runs content (number 8 0 payload) (number 4 8 payload)))
-did_run parts content text payload (Fails left) =
-    did content (parts.runs content (number 8 0 payload) (number 4 8 payload)).text (DONE ∷ end_bytes (parts.runs content (number 8 0 payload) (number 4 8 payload)))
+did_run parts content text payload Works = did content (run_asked parts content payload).text (DONE ∷ end_bytes (run_asked parts content payload))
+did_run parts content text payload (Fails left) = did content (run_asked parts content payload).text (DONE ∷ end_bytes (run_asked parts content payload))
 did_run parts content text payload LacksMemory = did content text (NO_MEMORY ∷ [])
 
 -- requests that leave the flash

@@ -3,6 +3,7 @@ use Rattle.std.specs.Prelude.{◌≡◌, ◌≤◌, ◌⊎◌, ℕ, ◌+◌, ◌
 use Rattle.std.specs.List.{range_with_len}
 use Rattle.byteorder.specs.Endian.{little_bytes}
 use Rattle.wire_packets.specs.declared.command.TheConstants.{OPEN, PROGRAM, ERASE, BANKS, FLASH_FAILED}
+use Rattle.wire_packets.specs.declared.payload.TheConstants.{MAX_PIECE, BANKS_KIND, BANKS_BANK, BANKS_NUMBER, BANKS_MARKS, BANKS_SIZE, NOT_FOUND, LATE_OLD_FORMAT, IN_A_BANK, FIRST_MARK, SECOND_MARK}
 use Rattle.wire_packets.specs.Decoding.{number}
 use Rattle.flash_trait.specs.Flash.{Operation, Program, Erase, after}
 use Rattle.deploy_model.specs.Banks.{Format, base, BODY, LAST_NUMBER, image_marker, bank_marker, number_bytes, holds, Located, locate}
@@ -41,7 +42,7 @@ pub record Plan : Type 0 where
 
 -- the bank that is written
 abbrev pub target_at : ℕ → ℕ → ℕ
-target_at kind bank = if kind == 0 then 0 else (if kind == 3 then 1 - bank else 1)
+target_at kind bank = if kind == NOT_FOUND then 0 else (if kind == IN_A_BANK then 1 - bank else 1)
 
 abbrev pub target_of : Banks → ℕ
 target_of b = target_at b.kind b.bank
@@ -50,17 +51,18 @@ abbrev pub plan_for : Banks → Plan
 plan_for b =
     record {
       target = target_of b;
-      number = if b.kind == 3 then b.number + 1 else 1;
-      front = (b.kind == 2) || ((target_of b == 0) && b.first);
+      number = if b.kind == IN_A_BANK then b.number + 1 else 1;
+      front = (b.kind == LATE_OLD_FORMAT) || ((target_of b == 0) && b.first);
       back = (target_of b == 1) && b.second;
     }
 
 -- no number follows the one that was found
 abbrev pub is_spent : Banks → Bool
-is_spent b = (b.kind == 3) && nat_le LAST_NUMBER b.number
+is_spent b = (b.kind == IN_A_BANK) && nat_le LAST_NUMBER b.number
 
+-- how many bytes of the set a request programs
 abbrev pub PIECE : ℕ
-PIECE = 1016
+PIECE = MAX_PIECE
 
 abbrev pub eight_zeros : List ℕ
 eight_zeros = 0 ∷ 0 ∷ 0 ∷ 0 ∷ 0 ∷ 0 ∷ 0 ∷ 0 ∷ []
@@ -112,20 +114,20 @@ payload_of (Erase sector) = little_bytes 4 sector
 
 -- the reply to Banks, behind its status
 abbrev pub marks_of : Banks → ℕ
-marks_of b = (if b.first then 1 else 0) + (if b.second then 2 else 0)
+marks_of b = (if b.first then FIRST_MARK else 0) + (if b.second then SECOND_MARK else 0)
 
 abbrev pub banks_bytes : Banks → List ℕ
 banks_bytes b = b.kind ∷ little_bytes 4 b.bank ++ little_bytes 4 b.number ++ marks_of b ∷ []
 
--- what a reply to Banks tells
+-- what a reply to Banks tells, behind its status
 abbrev pub banks_told : List ℕ → Banks
 banks_told payload =
     record {
-      kind = slice_index payload 1;
-      bank = number 4 2 payload;
-      number = number 4 6 payload;
-      first = slice_index payload 10 % 2 == 1;
-      second = slice_index payload 10 / 2 == 1;
+      kind = slice_index payload (1 + BANKS_KIND);
+      bank = number 4 (1 + BANKS_BANK) payload;
+      number = number 4 (1 + BANKS_NUMBER) payload;
+      first = slice_index payload (1 + BANKS_MARKS) % 2 == FIRST_MARK;
+      second = slice_index payload (1 + BANKS_MARKS) / 2 == 1;
     }
 
 -- a deployment that goes on: the set, how many requests were asked, and the plan once Banks was answered
@@ -157,7 +159,7 @@ asks_planned d b = if is_spent b then (IsSpent, d) else asks_nth (record { set =
 
 -- the length of a reply to Banks that tells them
 abbrev pub TOLD_SIZE : ℕ
-TOLD_SIZE = 11
+TOLD_SIZE = 1 + BANKS_SIZE
 
 -- a reply of another length tells nothing, and ends the deployment; none such is awaited
 abbrev pub asks_told : Deploying → List ℕ → Next × Deploying

@@ -2,6 +2,7 @@
 use Rattle.std.specs.Prelude.{◌≡◌, ◌⊎◌, ◌≤◌, ◌<◌, ◌+◌, ℕ, Bool, true, false, List, [], ◌∷◌, length, slice_index}
 use Rattle.flash_trait.specs.Flash.{Operation, IsStopped, AreBytes, after}
 use Rattle.deploy_model.specs.Banks.{Format, found, is_set, set_in, bank_found, bank_of, bank_bytes, locate, ROOM, BANK_SIZE, base, holds, bank_marker, image_marker}
+use Rattle.wire_packets.specs.declared.payload.TheConstants.{LATE_OLD_FORMAT}
 use Rattle.deploy_model.specs.Deployment.{Plan}
 
 -- P holds before each of these operations, of all that a stop of it may leave, and at the end
@@ -22,7 +23,7 @@ pub data Safe (f : Format) (start set : List ℕ) (target : ℕ) (content : List
   -- where the start has no set
   StillNone : is_set (found f start) ≡ false → is_set (found f content) ≡ false → Safe f start set target content
   -- where the start has a set of the format before that ends behind bank 0
-  Migrates : (locate f start).kind ≡ 2 → (is_set (found f content) ≡ false) ⊎ (found f content ≡ bank_found f 1 (bank_of 1 start)) → Safe f start set target content
+  Migrates : (locate f start).kind ≡ LATE_OLD_FORMAT → (is_set (found f content) ≡ false) ⊎ (found f content ≡ bank_found f 1 (bank_of 1 start)) → Safe f start set target content
 
 -- what the operations of a deployment keep at each moment; late says that the start has a set of the format before that
 -- ends behind bank 0
