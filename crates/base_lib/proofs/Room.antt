@@ -10,7 +10,7 @@ use Rattle.std.proofs.lemmas.List.Folds.{list_all_at}
 use Rattle.std.proofs.lemmas.List.Sums.{sum_by-append}
 use Rattle.base_tables.specs.Shape.{Item, ItemRow, Kind, item_of, items_of, kind_of, line_of}
 use Rattle.cil_layout.specs.Asked.{Asked, rows_of, weight_of, count_in}
-use Rattle.base_lib.specs.Small.{is_small}
+use Rattle.base_lib.specs.Fields.{fields_with, is_small}
 use Rattle.base_lib.specs.Fits.{is_fitting, all_fit}
 use Rattle.base_lib.specs.Files.{with_kinds, library_of}
 use Rattle.base_lib.proofs.Added.{kinds_rows, with_kinds_rows}
@@ -56,7 +56,7 @@ unfolding library_of
 whole_light name items short fit = omega (arith, short, weight_less name items items (are_fit items fit).each, (are_fit items fit).few)
 
 -- a fitting item is small
-small_of : (items : List Item) (x : ItemRow Bor) → IsFit items (item_of x) → is_small x ≡ true
+small_of : (items : List Item) (x : ItemRow Bor) → IsFit items (item_of x) → is_small (fields_with x) ≡ true
 small_of items x fit =
     both_true
     (both_true
@@ -64,7 +64,7 @@ small_of items x fit =
     (le-leb (length x.7.2.now) 1000 (omega (arith, length-map x.7.2.now kind_of, fit.small.locals))))
     (le-leb (length x.7.3.now) 1000 (omega (arith, length-map x.7.3.now line_of, fit.small.lines)))
 
-pub small_at : (xs : List (ItemRow Bor)) (i : ℕ) (d : ItemRow Bor) → i < length xs → all_fit (items_of xs) ≡ true → is_small (get_or xs i d) ≡ true
+pub small_at : (xs : List (ItemRow Bor)) (i : ℕ) (d : ItemRow Bor) → i < length xs → all_fit (items_of xs) ≡ true → is_small (fields_with (get_or xs i d)) ≡ true
 small_at xs i d below fit =
     let test : Item → Bool = is_fitting (items_of xs) in
     let passes : test (get_or (items_of xs) i (item_of d)) ≡ true =

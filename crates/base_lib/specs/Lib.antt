@@ -1,7 +1,7 @@
 pub mod Keys
 pub mod Signatures
 pub mod Code
-pub mod Small
+pub mod Fields
 pub mod Fits
 pub mod Files
 pub mod Natives

@@ -2,6 +2,7 @@
 #![tactic(auto)]
 
 mod code;
+mod fields;
 mod items;
 mod keys;
 pub mod law;

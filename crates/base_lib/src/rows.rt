@@ -4,13 +4,14 @@ ghost use Rattle.std.specs.Prelude.{◌≡◌, ℕ, ◌<◌, ◌≤◌, IfOk, On
 ghost use Rattle.cil_layout.specs.Asked.{rows_of, weight_of, with_row};
 ghost use Rattle.cil_layout.specs.declared.rows.Row.TheVariants.{MethodDef as AMethodDef};
 ghost use Rattle.cil_build.specs.Refs.{row_of_ref};
-ghost use Rattle.base_tables.specs.Shape.{item_of, items_of, kinds_of};
+ghost use Rattle.base_tables.specs.Shape.{items_of, kinds_of, item_of};
 ghost use Rattle.base_tables.specs.declared.shape.Entry.TheVariants.{TypeDef as ATypeDef, Field as AField, Method as AMethod, Implements as AnImplements, TypeOf as ATypeOf, MethodOf as AMethodOf, Literal as ALiteral};
 ghost use Rattle.base_lib.specs.Keys.{literal_len};
-ghost use Rattle.base_lib.specs.Small.{is_small};
+ghost use Rattle.base_lib.specs.Fields.{fields_with, said_by, is_small};
 ghost use Rattle.base_lib.specs.Files.{impl_flags, with_kinds, kinds_token, with_entry, with_item};
 
 use crate::code::body;
+use crate::fields::{Fields, fields_of};
 use crate::keys::token_for;
 use crate::signatures::{field_bytes, locals_bytes, method_bytes};
 use base_tables::library::VERSION;
@@ -86,14 +87,13 @@ fn add_literal(
     build: &mut Build,
     alloc: Global,
     items: &[Item],
-    item: &Item,
+    item: &Fields,
 ) -> Result<(), NoMemory>
     requires light { weight_of build.old ≤ 4000000 }
-    requires short { length item.now.1.now ≤ 100 }
-    ensures { OnOk result (build.new ≡ with_entry (items_of items.now) build.old ALiteral (item_of item.now)) }
+    requires short { length item.now.key.now ≤ 100 }
+    ensures { OnOk result (build.new ≡ with_entry (items_of items.now) build.old ALiteral (said_by item.now)) }
 {
-    let (_, text, ..) = *item;
-    let units = units_of(alloc, text)?;
+    let units = units_of(alloc, item.key)?;
     match build.user_text(alloc, units.as_slice()) {
         Ok(_text) => Ok(()),
         Err(BuildRefusal::NoMemory) => Err(NoMemory),
@@ -102,29 +102,38 @@ fn add_literal(
 }
 
 /// Adds a type.
-fn add_class(build: &mut Build, alloc: Global, items: &[Item], item: &Item) -> Result<(), NoMemory>
+fn add_class(
+    build: &mut Build,
+    alloc: Global,
+    items: &[Item],
+    item: &Fields,
+) -> Result<(), NoMemory>
     requires few { length items.now ≤ 60000 }
     requires short { sum_by literal_len (items_of items.now) ≤ 1000000 }
     requires room { (table : ℕ) → rows_of build.old table ≤ 60000 }
-    ensures { OnOk result (build.new ≡ with_entry (items_of items.now) build.old ATypeDef (item_of item.now)) }
+    ensures { OnOk result (build.new ≡ with_entry (items_of items.now) build.old ATypeDef (said_by item.now)) }
 {
-    let (_, _, name, namespace, base, flags, ..) = *item;
-    let extends = token_for(items, base);
-    let _class = build.add_type(alloc, flags, namespace, name, extends)?;
+    let extends = token_for(items, item.base);
+    let _class = build.add_type(alloc, item.flags, item.namespace, item.name, extends)?;
     Ok(())
 }
 
 /// Adds a field.
-fn add_field(build: &mut Build, alloc: Global, items: &[Item], item: &Item) -> Result<(), NoMemory>
+fn add_field(
+    build: &mut Build,
+    alloc: Global,
+    items: &[Item],
+    item: &Fields,
+) -> Result<(), NoMemory>
     requires few { length items.now ≤ 60000 }
     requires short { sum_by literal_len (items_of items.now) ≤ 1000000 }
     requires room { (table : ℕ) → rows_of build.old table ≤ 60000 }
-    ensures { OnOk result (build.new ≡ with_entry (items_of items.now) build.old AField (item_of item.now)) }
+    ensures { OnOk result (build.new ≡ with_entry (items_of items.now) build.old AField (said_by item.now)) }
 {
-    let (_, _, name, _, _, flags, (_, kind, _), _) = *item;
+    let (_, kind, _) = item.signature;
     let sig = field_bytes(alloc, items, &kind)?;
-    let flags = (flags % 0x0001_0000) as u16;
-    let _field = build.add_field(alloc, flags, name, sig.as_slice(), &[])?;
+    let flags = (item.flags % 0x0001_0000) as u16;
+    let _field = build.add_field(alloc, flags, item.name, sig.as_slice(), &[])?;
     Ok(())
 }
 
@@ -132,34 +141,37 @@ fn add_field(build: &mut Build, alloc: Global, items: &[Item], item: &Item) -> R
 fn add_row(
     build: &mut Build,
     alloc: Global,
-    item: &Item,
+    item: &Fields,
     sig: &[u8],
     code: &[u8],
 ) -> Result<(), NoMemory>
     requires room { rows_of build.old METHOD_DEF ≤ 60001 }
-    ensures { OnOk result (build.new ≡ with_row build.old (AMethodDef (record { impl_flags = impl_flags item.now.7.0; flags = item.now.5 % 65536; name = item.now.2.now; signature = sig.now; body = code.now }))) }
+    ensures { OnOk result (build.new ≡ with_row build.old (AMethodDef (record { impl_flags = impl_flags item.now.work; flags = item.now.flags % 65536; name = item.now.name.now; signature = sig.now; body = code.now }))) }
 {
-    let (_, _, name, _, _, flags, _, (work, ..)) = *item;
-    let flags = (flags % 0x0001_0000) as u16;
-    let _method = build.add_method(alloc, flags_of(work), flags, name, sig, code)?;
+    let flags = (item.flags % 0x0001_0000) as u16;
+    let _method = build.add_method(alloc, flags_of(item.work), flags, item.name, sig, code)?;
     Ok(())
 }
 
 /// Adds a method.
 #[tactic(auto, using(crate::proofs::Room::kinds_room))]
-fn add_method(build: &mut Build, alloc: Global, items: &[Item], item: &Item) -> Result<(), NoMemory>
+fn add_method(
+    build: &mut Build,
+    alloc: Global,
+    items: &[Item],
+    item: &Fields,
+) -> Result<(), NoMemory>
     requires few { length items.now ≤ 60000 }
     requires short { sum_by literal_len (items_of items.now) ≤ 1000000 }
     requires small { IsTrue (is_small item.now) }
     requires room { (table : ℕ) → rows_of build.old table ≤ 60000 }
-    ensures { OnOk result (build.new ≡ with_entry (items_of items.now) build.old AMethod (item_of item.now)) }
+    ensures { OnOk result (build.new ≡ with_entry (items_of items.now) build.old AMethod (said_by item.now)) }
 {
-    let (_, _, _, _, _, _, signature, (work, max_stack, locals, lines)) = *item;
-    let sig = method_bytes(alloc, items, &signature)?;
-    match work {
+    let sig = method_bytes(alloc, items, &item.signature)?;
+    match item.work {
         Work::Code => {
-            let token = add_kinds(build, alloc, items, locals)?;
-            let code = body(alloc, items, max_stack, token, lines)?;
+            let token = add_kinds(build, alloc, items, item.locals)?;
+            let code = body(alloc, items, item.number, token, item.lines)?;
             add_row(build, alloc, item, sig.as_slice(), code.as_slice())
         }
         Work::Native => add_row(build, alloc, item, sig.as_slice(), &[]),
@@ -172,16 +184,15 @@ fn add_interface(
     build: &mut Build,
     alloc: Global,
     items: &[Item],
-    item: &Item,
+    item: &Fields,
 ) -> Result<(), NoMemory>
     requires few { length items.now ≤ 60000 }
     requires short { sum_by literal_len (items_of items.now) ≤ 1000000 }
     requires room { (table : ℕ) → rows_of build.old table ≤ 60000 }
-    ensures { OnOk result (build.new ≡ with_entry (items_of items.now) build.old AnImplements (item_of item.now)) }
+    ensures { OnOk result (build.new ≡ with_entry (items_of items.now) build.old AnImplements (said_by item.now)) }
 {
-    let (_, _, name, _, base, ..) = *item;
-    let class = token_for(items, name);
-    let interface = token_for(items, base);
+    let class = token_for(items, item.name);
+    let interface = token_for(items, item.base);
     add_small(build, alloc, &RefRow::Interface { class, interface })
 }
 
@@ -190,19 +201,18 @@ fn add_class_of(
     build: &mut Build,
     alloc: Global,
     items: &[Item],
-    item: &Item,
+    item: &Fields,
 ) -> Result<(), NoMemory>
     requires few { length items.now ≤ 60000 }
     requires short { sum_by literal_len (items_of items.now) ≤ 1000000 }
     requires room { (table : ℕ) → rows_of build.old table ≤ 60000 }
-    ensures { OnOk result (build.new ≡ with_entry (items_of items.now) build.old ATypeOf (item_of item.now)) }
+    ensures { OnOk result (build.new ≡ with_entry (items_of items.now) build.old ATypeOf (said_by item.now)) }
 {
-    let (_, _, name, namespace, base, ..) = *item;
-    let scope = token_for(items, base);
+    let scope = token_for(items, item.base);
     let row = RefRow::TypeOf {
         scope,
-        namespace,
-        name,
+        namespace: item.namespace,
+        name: item.name,
     };
     add_small(build, alloc, &row)
 }
@@ -212,20 +222,19 @@ fn add_method_of(
     build: &mut Build,
     alloc: Global,
     items: &[Item],
-    item: &Item,
+    item: &Fields,
 ) -> Result<(), NoMemory>
     requires few { length items.now ≤ 60000 }
     requires short { sum_by literal_len (items_of items.now) ≤ 1000000 }
     requires small { IsTrue (is_small item.now) }
     requires room { (table : ℕ) → rows_of build.old table ≤ 60000 }
-    ensures { OnOk result (build.new ≡ with_entry (items_of items.now) build.old AMethodOf (item_of item.now)) }
+    ensures { OnOk result (build.new ≡ with_entry (items_of items.now) build.old AMethodOf (said_by item.now)) }
 {
-    let (_, _, name, _, base, _, signature, _) = *item;
-    let parent = token_for(items, base);
-    let sig = method_bytes(alloc, items, &signature)?;
+    let parent = token_for(items, item.base);
+    let sig = method_bytes(alloc, items, &item.signature)?;
     let row = RefRow::Member {
         parent,
-        name,
+        name: item.name,
         sig: sig.as_slice(),
     };
     add_small(build, alloc, &row)
@@ -241,13 +250,13 @@ pub fn add_item(
 ) -> Result<(), NoMemory>
     requires few { length items.now ≤ 60000 }
     requires short { sum_by literal_len (items_of items.now) ≤ 1000000 }
-    requires small { IsTrue (is_small item.now) }
+    requires small { IsTrue (is_small (fields_with item.now)) }
     requires room { (table : ℕ) → rows_of build.old table ≤ 60000 }
     requires light { weight_of build.old ≤ 4000000 }
     ensures { OnOk result (build.new ≡ with_item (items_of items.now) build.old (item_of item.now)) }
 {
-    let (entry, _, name, ..) = *item;
-    match entry {
+    let item = &fields_of(item);
+    match item.entry {
         Entry::Literal => add_literal(build, alloc, items, item),
         Entry::TypeDef => add_class(build, alloc, items, item),
         Entry::Field => add_field(build, alloc, items, item),
@@ -255,7 +264,7 @@ pub fn add_item(
         Entry::Implements => add_interface(build, alloc, items, item),
         Entry::Assembly => {
             let row = RefRow::Assembly {
-                name,
+                name: item.name,
                 version: VERSION,
             };
             add_small(build, alloc, &row)
