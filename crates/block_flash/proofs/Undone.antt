@@ -51,8 +51,3 @@ pub history-keeps : (op : Operation) (entries entries' : List Entry) (old new : 
     → history entries' new ≡ history entries old ++ (record { operation = op; before = old }) ∷ []
 history-keeps op entries entries' old new keeps stopped =
     ap (λ (es : List Entry). history es new) keeps.log ∙ history-push entries keeps.entry op old new keeps.operation keeps.before stopped
-
--- the room that is left
-pub spare_left : (b : Bool) (room n m : ℕ) → m ≡ n + 1 → (if b then room - n else 0) ≤ (if b then room - m else 0) + 1
-spare_left true room n m e = omega arith
-spare_left false room n m e = omega arith
