@@ -58,8 +58,8 @@ pub rows_done : (widths : List ℕ) (table : ℕ) (p : Places) (rows : List Row)
 unfolding rows_from
 rows_done widths table p rows i out past = ap (λ rs. out ++ flat_map (spelled widths) (rows_from table p rs)) (drop_of_length-le rows past) ∙ append-nil out
 
--- one more piece for a number of a list
-pub grown_at : (f : ℕ → List ℕ) (start xs : List ℕ) (i : ℕ) (out prev : List ℕ) → i < length xs → prev ≡ start ++ flat_map f (take i xs) → out ≡ prev ++ f (get_or xs i 0) → out ≡ start ++ flat_map f (take (i + 1) xs)
-grown_at f start xs i out prev below old grew =
-    grew ∙ ap (λ ys. ys ++ f (get_or xs i 0)) old ∙ flat_map_more f start (take i xs) (get_or xs i 0)
-    ∙ ap (λ ys. start ++ flat_map f ys) (sym (take_more xs i 0 below))
+-- one more piece for an element of a list, by its place
+pub grown_at : {X : Type 0} (f : X → List ℕ) (start : List ℕ) (xs : List X) (i : ℕ) (d : X) (out prev : List ℕ) → i < length xs → prev ≡ start ++ flat_map f (take i xs) → out ≡ prev ++ f (get_or xs i d) → out ≡ start ++ flat_map f (take (i + 1) xs)
+grown_at f start xs i d out prev below old grew =
+    grew ∙ ap (λ ys. ys ++ f (get_or xs i d)) old ∙ flat_map_more f start (take i xs) (get_or xs i d)
+    ∙ ap (λ ys. start ++ flat_map f ys) (sym (take_more xs i d below))

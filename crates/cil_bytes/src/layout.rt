@@ -3,17 +3,17 @@
 ghost use Rattle.std.specs.Prelude.{◌≡◌, ◌++◌, ◌<◌, ◌≤◌, ◌+◌, ◌-◌, ◌*◌, ◌^◌, IfOk, OnOk, ℕ, length, [], ◌∷◌, sum_by, slice_index};
 ghost use Rattle.std.specs.List.{flat_map};
 ghost use Rattle.cil_layout.specs.Asked.{row_weight, one_if};
-ghost use Rattle.cil_layout.specs.Layout.{file_flags as flags_of, four, headers, cli_header, root, round_up, is_long, width, widths_by, all_spelled, stream_by, metadata_by, file_by};
+ghost use Rattle.cil_layout.specs.Layout.{file_flags as flags_of, value_of, field_bytes, four, headers, cli_header, root, round_up, is_long, width, widths_by, all_spelled, stream_by, metadata_by, file_by};
 
 use crate::heaps::Heaps;
 use crate::tables::{Source, push_tables};
 use crate::write::{pad, push_bytes, push_four, push_parts, push_zeros};
 use cil_layout::fixed::{
-    BLOBS_NAME, CLI_FLAGS, CLI_HEADER, COFF_HEADER, CONTENT_RVA, DIRECTORIES, DOS_HEADER,
-    GUID_NAME, IMAGE_FIELDS, LIBRARY_FLAGS, MODULE_GUID, OPTIONAL_HEADER, PROGRAM_FLAGS, ROOT,
-    SECTION_ADDRESS, SECTION_END, STRINGS_NAME, TABLES_HEADER, TABLES_NAME, TABLES_PLACE,
+    BLOBS_NAME, CLI_FLAGS, CLI_HEADER, CONTENT_RVA, DOS_HEADER, GUID_NAME, LIBRARY_FLAGS,
+    MODULE_GUID, PROGRAM_FLAGS, ROOT, STRINGS_NAME, TABLES_HEADER, TABLES_NAME, TABLES_PLACE,
     TEXTS_NAME, VALID_TABLES,
 };
+use cil_layout::headers::{Field, HEADER_FIELDS, Value};
 use cil_layout::places::Widths;
 use cil_layout::rows::{ASSEMBLY_REF, METHOD_DEF, TABLES, TYPE_DEF, TYPE_REF, TYPE_SPEC};
 use plain_types::fault::NoMemory;
@@ -46,30 +46,50 @@ fn file_flags(entry: u32) -> u16
     }
 }
 
+/// What a field of a header holds, where the one section has so many bytes.
+fn value_for(size: u32, entry: u32, value: Value) -> u64
+    requires { size ≤ 5000000 }
+    ensures { result ≡ value_of size entry value }
+{
+    match value {
+        Value::Is(number) => number,
+        Value::FileFlags => u64::from(file_flags(entry)),
+        Value::SectionSize => u64::from(size),
+        Value::RawSize => u64::from(file_aligned(size)),
+        Value::ImageSize => u64::from(0x2000 + section_aligned(size)),
+    }
+}
+
+/// A field of a header.
+fn push_field(out: &mut Vec<u8>, size: u32, entry: u32, field: Field) -> Result<(), NoMemory>
+    requires { size ≤ 5000000 }
+    ensures { OnOk result (out.new.items ≡ out.old.items ++ field_bytes size entry field) }
+{
+    let bytes = value_for(size, entry, field.value).to_le_bytes();
+    let count = usize::from(field.width).min(8);
+    push_bytes(out, &bytes[..count])
+}
+
+/// The fields of the headers.
+fn push_fields(out: &mut Vec<u8>, size: u32, entry: u32) -> Result<(), NoMemory>
+    requires { size ≤ 5000000 }
+    ensures { OnOk result (out.new.items ≡ out.old.items ++ flat_map (field_bytes size entry) HEADER_FIELDS) }
+{
+    for field in &HEADER_FIELDS {
+        push_field(out, size, entry, *field)?;
+    }
+    Ok(())
+}
+
 /// The first 512 bytes of a file whose one section has so many bytes (ECMA-335 II.25.2, II.25.3).
 #[tactic(auto, unfolding(cil_layout::specs::Layout::headers))]
 pub fn push_headers(out: &mut Vec<u8>, size: u32, entry: u32) -> Result<(), NoMemory>
     requires { size ≤ 5000000 }
     ensures { OnOk result (out.new.items ≡ out.old.items ++ headers size entry) }
 {
-    push_parts(
-        out,
-        &[
-            &DOS_HEADER,
-            &COFF_HEADER,
-            &file_flags(entry).to_le_bytes(),
-            &OPTIONAL_HEADER,
-            &file_aligned(size).to_le_bytes(),
-            &IMAGE_FIELDS,
-            &(0x2000 + section_aligned(size)).to_le_bytes(),
-            &DIRECTORIES,
-            &size.to_le_bytes(),
-            &SECTION_ADDRESS,
-            &file_aligned(size).to_le_bytes(),
-            &SECTION_END,
-            &[0; 96],
-        ],
-    )
+    push_bytes(out, &DOS_HEADER)?;
+    push_fields(out, size, entry)?;
+    push_zeros(out, 96)
 }
 
 /// The CLI header of metadata that begins so far behind it (II.25.3.3).

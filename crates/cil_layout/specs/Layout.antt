@@ -1,7 +1,7 @@
 -- The bytes of an assembly, part by part (II.25, II.24.2).
 use Rattle.std.specs.Prelude.{ℕ, ◌+◌, ◌-◌, ◌*◌, ◌/◌, List, [], ◌∷◌, ◌++◌, length, map, take, replicate, Bool, ◌||◌, nat_le, if◌then◌else◌, ◌==◌}
 use Rattle.std.specs.List.{flat_map}
-use Rattle.std.specs.Int.{to_le_bytes, w16, w32}
+use Rattle.std.specs.Int.{to_le_bytes, w16, w32, w64}
 use Rattle.file_tables.specs.declared.schema.Coded.{Coded}
 use Rattle.file_tables.specs.declared.schema.Coded.TheVariants.{TypeDefOrRef, MemberRefParent, ResolutionScope}
 use Rattle.file_tables.specs.declared.schema.Column.{Column}
@@ -10,7 +10,11 @@ use Rattle.file_tables.specs.Schema.{columns_of}
 use Rattle.cil_layout.specs.declared.rows.TheConstants.{TYPE_REF, TYPE_DEF, METHOD_DEF, TYPE_SPEC, ASSEMBLY_REF, TABLES}
 use Rattle.cil_layout.specs.declared.rows.Row.{Row}
 use Rattle.cil_layout.specs.declared.places.Widths.{Widths}
-use Rattle.cil_layout.specs.declared.fixed.TheConstants.{DOS_HEADER, COFF_HEADER, PROGRAM_FLAGS, LIBRARY_FLAGS, OPTIONAL_HEADER, IMAGE_FIELDS, DIRECTORIES, SECTION_ADDRESS, SECTION_END, CLI_HEADER, CLI_FLAGS, CONTENT_RVA, ROOT, TABLES_PLACE, TABLES_NAME, STRINGS_NAME, TEXTS_NAME, GUID_NAME, BLOBS_NAME, TABLES_HEADER, VALID_TABLES, MODULE_GUID}
+use Rattle.cil_layout.specs.declared.headers.Value.{Value}
+use Rattle.cil_layout.specs.declared.headers.Value.TheVariants.{Is, FileFlags, SectionSize, RawSize, ImageSize}
+use Rattle.cil_layout.specs.declared.headers.Field.{Field}
+use Rattle.cil_layout.specs.declared.headers.TheConstants.{HEADER_FIELDS}
+use Rattle.cil_layout.specs.declared.fixed.TheConstants.{DOS_HEADER, PROGRAM_FLAGS, LIBRARY_FLAGS, CLI_HEADER, CLI_FLAGS, CONTENT_RVA, ROOT, TABLES_PLACE, TABLES_NAME, STRINGS_NAME, TEXTS_NAME, GUID_NAME, BLOBS_NAME, TABLES_HEADER, VALID_TABLES, MODULE_GUID}
 use Rattle.cil_layout.specs.Asked.{Asked, rows_of, one_if}
 use Rattle.cil_layout.specs.Heaps.{padded, strings_heap, blobs_heap, texts_heap, content}
 use Rattle.cil_layout.specs.Numbers.{table_rows}
@@ -28,13 +32,20 @@ round_up step n = (n + (step - 1)) / step * step
 abbrev pub file_flags : ℕ → ℕ
 file_flags entry = if entry == 0 then LIBRARY_FLAGS else PROGRAM_FLAGS
 
--- The first 512 bytes of a file whose one section has so many bytes (II.25.2, II.25.3).
+-- what a field of a header holds, where the one section has so many bytes
+abbrev pub value_of : ℕ → ℕ → Value → ℕ
+value_of size entry (Is n) = n
+value_of size entry FileFlags = file_flags entry
+value_of size entry SectionSize = size
+value_of size entry RawSize = round_up 512 size
+value_of size entry ImageSize = 0x2000 + round_up 0x2000 size
+
+abbrev pub field_bytes : ℕ → ℕ → Field → List ℕ
+field_bytes size entry field = take field.width (to_le_bytes w64 (value_of size entry field.value))
+
+-- the first 512 bytes of the file (II.25.2, II.25.3)
 unfoldable pub headers : ℕ → ℕ → List ℕ
-headers size entry =
-    DOS_HEADER ++ COFF_HEADER ++ two (file_flags entry)
-    ++ OPTIONAL_HEADER ++ four (round_up 512 size)
-    ++ IMAGE_FIELDS ++ four (0x2000 + round_up 0x2000 size)
-    ++ DIRECTORIES ++ four size ++ SECTION_ADDRESS ++ four (round_up 512 size) ++ SECTION_END ++ replicate 96 0
+headers size entry = DOS_HEADER ++ flat_map (field_bytes size entry) HEADER_FIELDS ++ replicate 96 0
 
 -- the CLI header of metadata that begins so far behind it (II.25.3.3)
 unfoldable pub cli_header : ℕ → ℕ → ℕ → List ℕ

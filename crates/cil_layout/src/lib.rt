@@ -3,5 +3,6 @@
 #![tactic(auto)]
 
 pub mod fixed;
+pub mod headers;
 pub mod places;
 pub mod rows;
