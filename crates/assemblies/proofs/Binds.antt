@@ -1,5 +1,5 @@
 -- A kept reference binds to the number of the kept type that it names.
-use Rattle.std.proofs.Common.{◌≡◌, ℕ, zero, suc, ◌+◌, ◌≤◌, Bool, true, false, ◌&&◌, List, [], ◌∷◌, Option, Some, None, refl, sym, ap, ◌∙◌, arith, cond}
+use Rattle.std.proofs.Common.{◌≡◌, ℕ, zero, suc, ◌+◌, ◌≤◌, Bool, true, false, ◌&&◌, List, [], ◌∷◌, Option, Some, None, refl, sym, ap, ◌∙◌, arith}
 use Rattle.std.specs.Prelude.{if◌then◌else◌, nat_eq, slice_get, slice_index}
 use Rattle.std.specs.List.{position}
 use Rattle.std.specs.Option.{option_map}
@@ -10,7 +10,7 @@ use Rattle.machine.specs.Texts.{same_text}
 use Rattle.machine.specs.Throw.{on_some}
 use Rattle.alike.proofs.Lists.{position_map}
 use Rattle.kept_rows.specs.Select.{select, below, rows}
-use Rattle.kept_rows.proofs.SelectLaws.{there, first, within_rows, position_step, agree, passes}
+use Rattle.kept_rows.proofs.SelectLaws.{there, first, within_rows, agree, passes}
 use Rattle.assemblies.specs.Rows.{TypeToken, TypeDef, TypeRef, TypeSpec, Scope, OfAssembly, Inside, Nowhere, TypeRefRow, TypeRow, Assembly}
 use Rattle.assemblies.specs.Binding.{first_number, id_at, same_assembly, assembly_of, same_row, is_type, type_in, in_scope, resolve_ref, resolve}
 use Rattle.assemblies.specs.Chosen.{Choice, token_to, scope_to, ref_to, type_row_to, chosen, chosen_set, number}

@@ -1,5 +1,5 @@
 -- Member references bind to the numbers of the members that they name.
-use Rattle.std.proofs.Common.{◌≡◌, ℕ, ◌+◌, ◌≤◌, Bool, true, ◌&&◌, List, [], ◌∷◌, map, Option, Some, None, refl, sym, ap, ◌∙◌, subst}
+use Rattle.std.proofs.Common.{◌≡◌, ℕ, ◌≤◌, Bool, true, ◌&&◌, List, [], ◌∷◌, map, Option, Some, None, refl, sym, ap, ◌∙◌, subst}
 use Rattle.std.specs.Prelude.{slice_get}
 use Rattle.std.specs.Option.{option_map}
 use Rattle.std.specs.List.{filter, find, position}
@@ -19,13 +19,12 @@ use Rattle.alike.proofs.Slots.{none_back, some_back}
 use Rattle.kept_rows.specs.Select.{select, below}
 use Rattle.kept_rows.proofs.SelectLaws as kept_rows
 use Rattle.assemblies.specs.Rows.{MemberToken, Own, Reference, TypeRow, Assembly}
-use Rattle.assemblies.specs.Binding.{id_at, numbered, holds, method_owner, field_owner, resolve, expanded, expanded_signature, classes_of, resolve_method, resolve_field}
-use Rattle.assemblies.specs.Chosen.{Choice, raw_to, signature_to, field_token_to, method_token_to, field_ref_to, method_ref_to, field_row_to, method_row_to, chosen, chosen_set, number, renaming, kept_members}
+use Rattle.assemblies.specs.Binding.{id_at, holds, method_owner, field_owner, resolve, expanded, expanded_signature, classes_of, resolve_method, resolve_field}
+use Rattle.assemblies.specs.Chosen.{Choice, raw_to, signature_to, field_token_to, method_token_to, field_ref_to, method_ref_to, chosen, chosen_set, number, renaming, kept_members}
 use Rattle.assemblies.specs.Closed.{FieldNames, MethodNames, Closed}
 use Rattle.assemblies.proofs.Binds.{on_some_back, map_back, chosen_at, token_law, token_there}
 use Rattle.assemblies.proofs.Signatures.{type_back, expanded_law, signature_law}
 use Rattle.assemblies.proofs.ClassLaws.{method_back, field_back}
-use Rattle.assemblies.proofs.Numbered.{get_numbered}
 use Rattle.assemblies.proofs.Owners.{method_owner_law, field_owner_law}
 
 -- the first class upwards with a member that passes, where that member is kept

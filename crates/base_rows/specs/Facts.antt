@@ -12,7 +12,7 @@ use Rattle.plain_types.specs.declared.elem.Elem.{Elem}
 use Rattle.machine.specs.Data.{Id, elem_number}
 use Rattle.machine.specs.Texts.{same_text}
 use Rattle.machine.specs.Throw.{on_some}
-use Rattle.machine.specs.Program.{NativeName, ObjectToString, EnumEquals, EnumToString, ArrayLength, ArrayCopy, StringLength, StringChars, StringConcat, StringSubstring, StringEquals, StringCompare, StringFromChars, StringFromChar, NumberSigned, NumberUnsigned, InitializeArray, DebugPrint, Body, Code, Native, Missing}
+use Rattle.machine.specs.Program.{NativeName, ObjectToString, EnumEquals, EnumToString, ArrayLength, ArrayCopy, StringLength, StringChars, StringConcat, StringSubstring, StringEquals, StringCompare, StringFromChars, StringFromChar, NumberSigned, NumberUnsigned, InitializeArray, DebugPrint, Body, Code, Native, Missing, native_number}
 use Rattle.classes.specs.Classes.{TypeKind, Reference, Builtin, Enumeration, OtherValue, Class, Classes}
 use Rattle.assemblies.specs.Rows.{TypeRow, MethodRow, FieldRow, Assembly}
 use Rattle.assemblies.specs.Binding.{id_at, numbered, expanded, expanded_signature, sources_of}
@@ -81,25 +81,6 @@ abbrev pub asked_kinds : List (List ℕ) → List ℕ
 asked_kinds names = map code_by_name names
 
 -- ---- bodies
-
-abbrev pub native_number : NativeName → ℕ
-native_number ObjectToString = 1
-native_number EnumEquals = 2
-native_number EnumToString = 3
-native_number ArrayLength = 4
-native_number ArrayCopy = 5
-native_number StringLength = 6
-native_number StringChars = 7
-native_number StringConcat = 8
-native_number StringSubstring = 9
-native_number StringEquals = 10
-native_number StringCompare = 11
-native_number StringFromChars = 12
-native_number StringFromChar = 13
-native_number NumberSigned = 14
-native_number NumberUnsigned = 15
-native_number InitializeArray = 16
-native_number DebugPrint = 17
 
 abbrev pub body_code : Body → ℕ
 body_code (Native x) = native_number x

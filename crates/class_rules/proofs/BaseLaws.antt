@@ -1,6 +1,6 @@
 -- The test of the base library gives the facts that the laws of types need.
 use Rattle.std.proofs.Common.{◌≡◌, ℕ, Bool, true, false, List, [], ◌∷◌, ◌++◌, map, Option, Some, None, refl, sym, ap, ◌∙◌, subst}
-use Rattle.std.specs.Prelude.{codes, ◌&&◌, not, slice_get, is_some, unwrap_or}
+use Rattle.std.specs.Prelude.{codes, slice_get, is_some, unwrap_or}
 use Rattle.std.specs.List.{list_all}
 use Rattle.std.specs.Option.{option_map}
 use Rattle.std.proofs.lemmas.Bool.{and_parts, not-true}
@@ -8,16 +8,15 @@ use Rattle.board_types.specs.declared.board.Known.{Known}
 use Rattle.board_types.specs.declared.board.Known.TheVariants as exception
 use Rattle.plain_types.specs.declared.elem.Elem.{Elem}
 use Rattle.plain_types.specs.declared.elem.Elem.TheVariants as elem
-use Rattle.machine.specs.Data.{Id, id_eq, Basic, PlaceType, Plain, To, elem_cell}
-use Rattle.machine.specs.Program.{Body, Native, NativeName}
+use Rattle.machine.specs.Data.{Id, Basic, PlaceType, Plain, To, elem_cell}
+use Rattle.machine.specs.Program.{Native, NativeName}
 use Rattle.machine.specs.Throw.{on_some}
 use Rattle.machine_typed.specs.Typing.{is_number}
 use Rattle.machine_typed.proofs.Types.{id_same, type_same}
 use Rattle.classes.specs.Classes.{Classes, Class, OwnMethod, Signature, TypeKind, Reference, Builtin, Enumeration, OtherValue}
-use Rattle.classes.specs.Queries.{parents, superclass_of, methods_of, basic, known, knowns, elements, array, library_class, fields, kind_of, some_eq, place_of, type_of}
+use Rattle.classes.specs.Queries.{parents, superclass_of, methods_of, basic, knowns, elements, array, library_class, kind_of, some_eq, place_of, type_of}
 use Rattle.classes.specs.Listed.{this_before}
-use Rattle.class_rules.specs.Made.{is_made}
-use Rattle.class_rules.specs.Rules.{holds_some, is_user, only_if, is_none_there, may_be_extended, under_object}
+use Rattle.class_rules.specs.Rules.{holds_some, is_user, only_if, is_none_there, may_be_extended}
 use Rattle.class_rules.specs.Base.{IsBase, HasTypes, native_takes, native_gives, where_some, is_alone, is_class_kind, place_eq, places_eq, result_eq, extends_low, is_under, takes_well, natives_fit, facts, is_base}
 use Rattle.class_rules.proofs.Ways.{all_at}
 use Rattle.class_rules.proofs.FitsLaws.{some_both}

@@ -1,6 +1,6 @@
 -- What the rules and the base library give the machine's typing of a program, besides that of its code.
 use Rattle.std.proofs.Common.{◌≡◌, ◌⊎◌, inl, inr, ⊎_elim, ℕ, zero, suc, Bool, true, false, List, [], ◌∷◌, Option, Some, None, refl, sym, ap, ◌∙◌, subst}
-use Rattle.std.specs.Prelude.{if◌then◌else◌, ◌&&◌, ◌||◌, slice_get, unwrap_or, is_some, cond}
+use Rattle.std.specs.Prelude.{if◌then◌else◌, ◌&&◌, slice_get, unwrap_or, is_some, cond}
 use Rattle.std.specs.Option.{option_map}
 use Rattle.std.specs.List.{list_any, filter}
 use Rattle.std.proofs.lemmas.Bool.{and_parts, or_cases, and_from, both_ways, cases_Bool}

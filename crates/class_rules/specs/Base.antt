@@ -1,5 +1,5 @@
 -- What classes have because their first two files are the base library.
-use Rattle.std.specs.Prelude.{◌≡◌, codes, ℕ, ◌+◌, ◌≤◌, true, false, ◌&&◌, not, List, [], ◌∷◌, ◌++◌, map, Option, Some, None, slice_get, is_some, Bool}
+use Rattle.std.specs.Prelude.{◌≡◌, codes, ℕ, true, false, ◌&&◌, not, List, [], ◌∷◌, ◌++◌, map, Option, Some, None, slice_get, is_some, Bool}
 use Rattle.std.specs.Option.{option_map}
 use Rattle.board_types.specs.declared.board.Known.{Known}
 use Rattle.plain_types.specs.declared.elem.Elem.{Elem}
@@ -7,8 +7,8 @@ use Rattle.plain_types.specs.declared.elem.Elem.TheVariants as elem
 use Rattle.machine.specs.Data.{Id, id_eq, Basic, ClassOf, ValueOf, ArrayOf, PlaceType, Plain, elem_cell, To, type_eq}
 use Rattle.machine.specs.Program.{Native, NativeName, ObjectToString, EnumEquals, EnumToString, ArrayLength, ArrayCopy, StringLength, StringChars, StringConcat, StringSubstring, StringEquals, StringCompare, StringFromChars, StringFromChar, NumberSigned, NumberUnsigned, InitializeArray, DebugPrint, Body}
 use Rattle.machine_typed.specs.Typing.{is_number}
-use Rattle.classes.specs.Classes.{Classes, OwnMethod, Signature, Reference, Builtin, Enumeration, OtherValue, Class, TypeKind}
-use Rattle.classes.specs.Queries.{parents, superclass_of, is_interface, own_instance_fields, methods_of, method_at, basic, array, known, library_class, fields, place_of, type_of, kind_of, some_eq, elements, knowns}
+use Rattle.classes.specs.Classes.{Classes, OwnMethod, Signature, Reference, Class, TypeKind}
+use Rattle.classes.specs.Queries.{parents, superclass_of, is_interface, own_instance_fields, methods_of, basic, array, known, library_class, fields, place_of, type_of, kind_of, some_eq, elements, knowns}
 use Rattle.classes.specs.Listed.{this_before}
 use Rattle.class_rules.specs.Rules.{holds_some, is_user, may_be_extended, under_object, is_filled, only_if, is_none_there}
 use Rattle.class_rules.specs.Made.{is_made}

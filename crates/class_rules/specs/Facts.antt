@@ -1,10 +1,9 @@
 -- What accepted classes keep. Beside each fact stands where it comes from: a rule of refusal, or the base library itself.
 use Rattle.std.specs.Prelude.{◌≡◌, ◌⊎◌, ℕ, Bool, true, false, [], ◌∷◌, Option, Some, None, slice_get}
-use Rattle.std.specs.Option.{option_map}
 use Rattle.plain_types.specs.declared.elem.Elem.TheVariants as elem
 use Rattle.machine.specs.Data.{Id, CliType, Basic, EnumOf, ClassOf, ValueOf, ArrayOf, cell_of}
 use Rattle.machine_typed.specs.Typing.{is_refers, is_number, is_plain, has_body}
-use Rattle.classes.specs.Classes.{Classes, OwnMethod, Signature, TypeKind}
+use Rattle.classes.specs.Classes.{Classes, OwnMethod, Signature}
 use Rattle.classes.specs.Queries.{ends, parents, is_interface, superclass_of, interfaces_of, instance_fields, methods_of, method_at, basic, array, class_of, type_of_class, is_or_implements, is_virtual_named, target}
 
 -- the chains and the base library's top

@@ -101,9 +101,9 @@ named None make = no_row
 named (Some x) make = make x
 
 -- by the number of an argument or local
-abbrev pub placed : Option PlaceType → (PlaceType → Row) → Row
-placed None make = record no_row { rule = 47 }
-placed (Some type) make = make type
+abbrev pub with_place : Option PlaceType → (PlaceType → Row) → Row
+with_place None make = record no_row { rule = 47 }
+with_place (Some type) make = make type
 
 -- a value is pushed; a value that fits is taken
 abbrev pub pushing : Bool → StackType → Row
@@ -142,12 +142,12 @@ row_of p exception m Nop = row true 0 0 (none (Some []))
 row_of p exception m (Push v) = named (type_of_constant p v) (pushing true)
 row_of p exception m Dup = row true 1 2 (one (λ t. Some (t ∷ (t ∷ []))))
 row_of p exception m Pop = row true 1 0 (one (λ t. Some []))
-row_of p exception m (LoadArgument n) = placed (slice_get m.arguments n) (λ k. pushing true (loaded k))
-row_of p exception m (StoreArgument n) = placed (slice_get m.arguments n) (λ k. storing p true (loaded k))
-row_of p exception m (LoadArgumentAddress n) = placed (slice_get m.arguments n) address_row
-row_of p exception m (LoadLocal n) = placed (slice_get m.locals n) (λ k. pushing true (loaded k))
-row_of p exception m (StoreLocal n) = placed (slice_get m.locals n) (λ k. storing p true (loaded k))
-row_of p exception m (LoadLocalAddress n) = placed (slice_get m.locals n) address_row
+row_of p exception m (LoadArgument n) = with_place (slice_get m.arguments n) (λ k. pushing true (loaded k))
+row_of p exception m (StoreArgument n) = with_place (slice_get m.arguments n) (λ k. storing p true (loaded k))
+row_of p exception m (LoadArgumentAddress n) = with_place (slice_get m.arguments n) address_row
+row_of p exception m (LoadLocal n) = with_place (slice_get m.locals n) (λ k. pushing true (loaded k))
+row_of p exception m (StoreLocal n) = with_place (slice_get m.locals n) (λ k. storing p true (loaded k))
+row_of p exception m (LoadLocalAddress n) = with_place (slice_get m.locals n) address_row
 row_of p exception m (Binary operator) = row true 2 1 (two (λ x y. on_some (binary_type (sort_of x) (sort_of y)) (λ t. Some (t ∷ []))))
 row_of p exception m (Shift operator) = row true 2 1 (two (λ x y. on_some (shift_type (sort_of x) (sort_of y)) (λ t. Some (t ∷ []))))
 row_of p exception m (Unary operator) = row true 1 1 (one (λ x. on_some (unary_type (sort_of x)) (λ t. Some (t ∷ []))))

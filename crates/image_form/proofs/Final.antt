@@ -3,8 +3,8 @@ use Rattle.std.proofs.Common.{◌≡◌, ℕ, List, [], ◌∷◌, ◌++◌, map
 use Rattle.image_bytes.specs.Layout.{onto}
 use Rattle.image_pools.specs.Pools.{Entry}
 use Rattle.assemblies.specs.Rows.{RawType, AssemblyRow, TypeRefRow, FieldRefRow, MethodRefRow, TypeRow, FieldRow, MethodRow, Assembly}
-use Rattle.image_form.specs.Signatures.{Each, raw_onto, signature_onto}
-use Rattle.image_form.specs.Form.{Manner, flat}
+use Rattle.image_form.specs.Signatures.{raw_onto, signature_onto}
+use Rattle.image_form.specs.Form.{Manner}
 use Rattle.image_form.specs.Fits.{NameHas, RefHas, FieldRefHas, MethodRefHas, TypeHas, FieldHas, SpecHas, ClauseHas, MethodHas, TokenHas}
 use Rattle.image_form.specs.Whole.{name_entry, signature_entry, literals_in, locals_entry, strings_walk, signatures_walk, offsets, interfaces_of, clauses_of, Methods, Has, laid, seen}
 use Rattle.image_form.specs.Limits.{IsUtf8, TokenIn, RefIn, FieldRefIn, MethodRefIn, TypeIn, FieldIn, SpecIn, ClauseIn, MethodIn, IsSpelt}
@@ -12,6 +12,8 @@ use Rattle.image_form.proofs.Found.{all_found, each_left, each_right, each_mappe
 use Rattle.image_form.proofs.LaidLaws.{laid_held, laid_seen}
 use Rattle.image_form.proofs.WholeLaws.{each_of}
 use Rattle.image_form.proofs.InLaws.{InStrings, InSignatures, MethodFound, methods_count, token_has, row_or_none, name_has, ref_has, field_ref_has, method_ref_has, type_has, field_has, spec_has, clause_has, method_has}
+use Rattle.assemblies.specs.Closed.{Each}
+use Rattle.std.specs.List.{flat_map}
 
 module _ (p : Assembly) (ms : Methods) (s : IsSpelt p ms) where
   has : Has (laid p ms) (laid_held p ms) (offsets p ms) p ms
@@ -23,17 +25,17 @@ module _ (p : Assembly) (ms : Methods) (s : IsSpelt p ms) where
       let G : Entry → Type 0 = InSignatures p ms lim in
       let a0 = name_entry p.name ∷ [] in
       let a1 = map (λ (a : AssemblyRow). name_entry a.name) p.assemblies in
-      let a2 = flat (λ (r : TypeRefRow). name_entry r.namespace ∷ name_entry r.name ∷ []) p.refs in
+      let a2 = flat_map (λ (r : TypeRefRow). name_entry r.namespace ∷ name_entry r.name ∷ []) p.refs in
       let a3 = map (λ (r : FieldRefRow). name_entry r.name) p.field_refs in
       let a4 = map (λ (r : MethodRefRow). name_entry r.name) p.method_refs in
-      let a5 = flat (λ (t : TypeRow). name_entry t.namespace ∷ name_entry t.name ∷ []) p.types in
+      let a5 = flat_map (λ (t : TypeRow). name_entry t.namespace ∷ name_entry t.name ∷ []) p.types in
       let a6 = map (λ (f : FieldRow). name_entry f.name) p.fields in
       let a7 = map (λ (x : Manner × MethodRow). name_entry x.1.name) ms in
-      let a8 = flat (λ (x : Manner × MethodRow). literals_in x.1.code) ms in
+      let a8 = flat_map (λ (x : Manner × MethodRow). literals_in x.1.code) ms in
       let b1 = map (λ (r : FieldRefRow). signature_entry (raw_onto r.signature [])) p.field_refs in
       let b2 = map (λ (r : MethodRefRow). signature_entry (signature_onto r.signature [])) p.method_refs in
       let b3 = map (λ (f : FieldRow). signature_entry (raw_onto f.signature [])) p.fields in
-      let b4 = flat (λ (x : Manner × MethodRow). signature_entry (signature_onto x.1.signature []) ∷ locals_entry x.0 x.1.code) ms in
+      let b4 = flat_map (λ (x : Manner × MethodRow). signature_entry (signature_onto x.1.signature []) ∷ locals_entry x.0 x.1.code) ms in
       let b5 = map (λ (r : RawType). signature_entry (raw_onto r [])) p.specs in
       let r1 = each_right S a0 (a1 ++ (a2 ++ (a3 ++ (a4 ++ (a5 ++ (a6 ++ (a7 ++ a8))))))) (all_found (strings_walk p ms)) in
       let r2 = each_right S a1 (a2 ++ (a3 ++ (a4 ++ (a5 ++ (a6 ++ (a7 ++ a8)))))) r1 in

@@ -1,9 +1,9 @@
 -- Flags are read as they are spelt.
 use Rattle.std.proofs.Common.{◌≡◌, Bool, true, false, refl}
 use Rattle.plain_types.specs.declared.elem.Elem.TheVariants as elem
-use Rattle.machine.specs.Program.{Body, NativeName, ObjectToString, EnumEquals, EnumToString, ArrayLength, ArrayCopy, StringLength, StringChars, StringConcat, StringSubstring, StringEquals, StringCompare, StringFromChars, StringFromChar, NumberSigned, NumberUnsigned, InitializeArray, DebugPrint}
+use Rattle.machine.specs.Program.{Body, NativeName, ObjectToString, EnumEquals, EnumToString, ArrayLength, ArrayCopy, StringLength, StringChars, StringConcat, StringSubstring, StringEquals, StringCompare, StringFromChars, StringFromChar, NumberSigned, NumberUnsigned, InitializeArray, DebugPrint, native_number}
 use Rattle.classes.specs.Classes.{TypeKind}
-use Rattle.image_form.specs.Form.{bit, type_flags, kind_of, method_flags, native_word, native_body}
+use Rattle.image_form.specs.Form.{bit, type_flags, kind_of, method_flags, native_body}
 use Rattle.image_form.specs.Fits.{KindFits}
 
 pub record FlagsRead (k : TypeKind) (i a z : Bool) : Type 0 where
@@ -307,7 +307,7 @@ bits_law false false false true false = record { static = refl; virtual = refl; 
 bits_law false false false false true = record { static = refl; virtual = refl; newslot = refl; abstract = refl; native = refl }
 bits_law false false false false false = record { static = refl; virtual = refl; newslot = refl; abstract = refl; native = refl }
 
-pub native_law : (n : NativeName) → native_body (native_word n) ≡ Body.Native n
+pub native_law : (n : NativeName) → native_body (native_number n) ≡ Body.Native n
 native_law ObjectToString = refl
 native_law EnumEquals = refl
 native_law EnumToString = refl

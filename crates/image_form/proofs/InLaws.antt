@@ -15,7 +15,7 @@ use Rattle.machine.specs.Program.{Body}
 use Rattle.image_bytes.specs.Layout.{rows_of, is_range, all_onto, byte_onto}
 use Rattle.image_pools.specs.Pools.{Entry, pool, text_at, entry_size, pool_onto}
 use Rattle.assemblies.specs.Rows.{TypeToken, TypeDef, TypeRef, TypeSpec, Scope, OfAssembly, Inside, Nowhere, RawType, RawSpelt, RawClass, RawValue, RawArray, RawPlace, RawDirect, RawByRef, RawSignature, TypeRefRow, FieldRefRow, MethodRefRow, TypeRow, FieldRow, RawOperand, RawText, RawLine, RawKind, RawCatch, RawFinally, RawOther, RawClause, RawCode, MethodRow, Assembly}
-use Rattle.image_form.specs.Signatures.{Each, type_word, raw_onto, signature_onto, locals_onto, read_type, read_signature, read_locals, whole, IsNamed, HasSpelling, PlaceHas, ResultHas, SignatureHas}
+use Rattle.image_form.specs.Signatures.{type_word, raw_onto, signature_onto, locals_onto, read_type, read_signature, read_locals, whole, IsNamed, HasSpelling, PlaceHas, ResultHas, SignatureHas}
 use Rattle.image_form.specs.Codes.{short, size, instr_of, OperandFits, LinesFit}
 use Rattle.image_form.specs.Form.{checked, none_or, or_none, units_onto, units_of, no_spec, name_text, plain_at, signature_at, locals_at, signature_word, locals_word, meaning, words, Offsets, Manner, scope_word, type_rows, field_rows, method_rows, assembly_row, ref_row, spec_row, data_of, bytes_in, clauses_in}
 use Rattle.image_form.specs.Fits.{NameHas, RawHas, RefHas, FieldRefHas, MethodRefHas, TypeHas, FieldHas, SpecHas, ClauseHas, ClauseKindHas, BodyHas, MethodHas}
@@ -25,6 +25,7 @@ use Rattle.image_form.proofs.SignatureLaws.{type_back, member_back, type_law, si
 use Rattle.image_form.proofs.Found.{IsFound, each_flat}
 use Rattle.image_form.proofs.LaidLaws.{strings_of, signatures_of, laid_held}
 use Rattle.image_form.proofs.WholeLaws.{each_of}
+use Rattle.assemblies.specs.Closed.{Each}
 
 if_true : {A : Type 0} (b : Bool) (x y : A) → b ≡ true → (if b then x else y) ≡ x
 if_true true x y e = refl

@@ -8,10 +8,10 @@ use Rattle.image_bytes.specs.Layout.{AllOfLength, HasShape, all_onto, byte_onto,
 use Rattle.image_bytes.proofs.Laws.{word_law, byte_law, many_law, written}
 use Rattle.image_pools.specs.Pools.{Entry, pool, texts_of, pool_onto}
 use Rattle.assemblies.specs.Rows.{RawKind, RawCatch, RawFinally, RawOther, AssemblyRow, TypeRow, FieldRow, RawClause, RawCode, Assembly}
-use Rattle.image_form.specs.Signatures.{Each}
 use Rattle.image_form.specs.Form.{Held, Offsets, Manner, assembly_row, ref_row, field_ref_row, method_ref_row, type_rows, interface_row, field_rows, field_words, clause_row, clause_words, spec_row, method_rows, body_words, bytes_in, clauses_in, data_of, data_rows}
 use Rattle.image_form.specs.Whole.{image_rows, strings_walk, signatures_walk, offsets, interfaces_of, clauses_of, datas_of, Methods, Lies, Has, laid, seen}
 use Rattle.image_form.proofs.WholeLaws.{whole_held, image_law}
+use Rattle.assemblies.specs.Closed.{Each}
 
 abbrev pub bytes_of : List Entry → List (List ℕ)
 bytes_of es = map (λ (e : Entry). e.bytes) es

@@ -9,9 +9,9 @@ use Rattle.cil_opcodes.specs.declared.shape.Shape.{Shape}
 use Rattle.cil_opcodes.specs.declared.shape.Row.{Row}
 use Rattle.image_bytes.specs.Layout.{all_onto}
 use Rattle.assemblies.specs.Rows.{RawOperand, RawTargets, RawTypeOf, RawField, RawMethod, RawLine}
-use Rattle.image_form.specs.Signatures.{Each}
 use Rattle.image_form.specs.Codes.{number_onto, behind_first, bytes_for, signed_onto, NoBytes, SignedBy, UnsignedBy, Counted, Length, lie_of, FitsIn, size, instrs_of, instrs_onto, IsSound, Meaning, Words, target, text_operand, distance, operand_of, line_of, lines_of, plain_of, instr_of, instrs_to, AllPlaces, OperandFits, LineFits, LinesFit}
 use Rattle.image_form.proofs.CodeLaws.{instrs_law}
+use Rattle.assemblies.specs.Closed.{Each}
 
 target_law : (next n : ℕ) → target next (distance next (pos n)) ≡ pos n
 target_law next n = omega (arith, ints)

@@ -6,17 +6,18 @@ use Rattle.std.proofs.lemmas.Bool.{le-leb, ne_eqb}
 use Rattle.std.proofs.lemmas.List.{append_assoc, length-append}
 use Rattle.cil_opcodes.specs.Rows.{row_of}
 use Rattle.machine.specs.Throw.{on_some}
-use Rattle.machine.specs.Program.{Body}
+use Rattle.machine.specs.Program.{Body, native_number}
 use Rattle.classes.specs.Classes.{FieldKind, TypeKind}
 use Rattle.image_bytes.specs.Layout.{is_range}
 use Rattle.assemblies.specs.Chosen.{first_of}
 use Rattle.assemblies.specs.Rows.{TypeToken, RawType, RawKind, RawCatch, RawFinally, RawOther, AssemblyRow, TypeRefRow, FieldRefRow, MethodRefRow, TypeRow, FieldRow, RawLine, RawClause, RawCode, MethodRow}
-use Rattle.image_form.specs.Signatures.{Each}
 use Rattle.image_form.specs.Codes.{short, instrs_of, lines_of}
-use Rattle.image_form.specs.Form.{on_both, all_some, checked, part, bit, type_flags, method_flags, native_word, native_body, Held, spec_at, part_at, assembly_at, ref_at, field_ref_at, method_ref_at, type_at, field_kind_at, field_at, interface_at, clause_at, no_code, code_with, body_with, body_at, method_at, lines_at, meaning, make_assembly_row, make_ref, make_field_ref, make_method_ref, make_type, make_field, make_clause, make_method, only_array, clauses_nest, has_room, Offsets, Manner, signature_word, locals_word, assembly_row, ref_row, field_ref_row, method_ref_row, type_row, type_rows, interface_row, field_row, field_rows, clause_row, spec_row, words, code_bytes, method_row, method_rows, bytes_in, clauses_in, data_of, data_rows, data_at, flat}
+use Rattle.image_form.specs.Form.{on_both, all_some, checked, part, bit, type_flags, method_flags, native_body, Held, spec_at, part_at, assembly_at, ref_at, field_ref_at, method_ref_at, type_at, field_kind_at, field_at, interface_at, clause_at, no_code, code_with, body_with, body_at, method_at, lines_at, meaning, make_assembly_row, make_ref, make_field_ref, make_method_ref, make_type, make_field, make_clause, make_method, only_array, clauses_nest, has_room, Offsets, Manner, signature_word, locals_word, assembly_row, ref_row, field_ref_row, method_ref_row, type_row, type_rows, interface_row, field_row, field_rows, clause_row, spec_row, words, code_bytes, method_row, method_rows, bytes_in, clauses_in, data_of, data_rows, data_at}
 use Rattle.image_form.specs.Fits.{IsNoLiteral, NameHas, RefHas, FieldRefHas, MethodRefHas, TypeHas, FieldHas, SpecHas, ClauseHas, ClauseKindHas, CodeHas, BodyHas, MethodHas, TokenHas}
 use Rattle.image_form.proofs.MeaningLaws.{code_law}
 use Rattle.image_form.proofs.FlagLaws.{flags_law, bits_law, native_law}
+use Rattle.assemblies.specs.Closed.{Each}
+use Rattle.std.specs.List.{flat_map}
 
 if_true : {A : Type 0} (b : Bool) (x y : A) → b ≡ true → (if b then x else y) ≡ x
 if_true true x y e = refl
@@ -69,10 +70,10 @@ module _ (h : Held) where
       ap (λ b. checked b (part (length pre) (suc (length xs)) (pre ++ ((x ∷ xs) ++ post)))) (in_range (length (pre ++ ((x ∷ xs) ++ post))) (length pre) (length xs) (fits_within pre (x ∷ xs) post))
       ∙ ap Some (middle pre (x ∷ xs) post)
 
-pub data_law : (pre : List ℕ) (ds : List (List ℕ)) (pool : List ℕ) → pool ≡ pre ++ flat (λ d. d) ds → all_some (data_at pool) (data_rows (length pre) ds) ≡ Some ds
+pub data_law : (pre : List ℕ) (ds : List (List ℕ)) (pool : List ℕ) → pool ≡ pre ++ flat_map (λ d. d) ds → all_some (data_at pool) (data_rows (length pre) ds) ≡ Some ds
 data_law pre [] pool e = refl
 data_law pre (d ∷ ds) pool e =
-    let post = flat (λ d. d) ds in
+    let post = flat_map (λ d. d) ds in
     let one : data_at pool (length pre ∷ length d ∷ []) ≡ Some d =
     ap (λ p. data_at p (length pre ∷ length d ∷ [])) e
     ∙ if_true (nat_le (length pre + length d) (length (pre ++ (d ++ post)))) (Some (part (length pre) (length d) (pre ++ (d ++ post)))) None (le-leb (length pre + length d) (length (pre ++ (d ++ post))) (fits_within pre d post))
@@ -119,10 +120,10 @@ module _ (h : Held) (o : Offsets) where
       ∙ (λ i. on_both (on_both (on_both (on_both (option_map (make_type flags t.first_field t.field_count t.first_method t.method_count) (f.namespace i)) (f.name i)) (f.enclosing i)) (f.extends i)) (ifs i))
       ∙ (λ i. Some (make (r.kind i) (r.interface i) (r.abstract i) (r.lazy i)))
 
-  pub types_law : (pre : List TypeToken) (ts : List TypeRow) → h.interfaces ≡ pre ++ flat (λ t. t.interfaces) ts → Each (TypeHas h o) ts → all_some (type_at h) (type_rows o (length pre) ts) ≡ Some ts
+  pub types_law : (pre : List TypeToken) (ts : List TypeRow) → h.interfaces ≡ pre ++ flat_map (λ t. t.interfaces) ts → Each (TypeHas h o) ts → all_some (type_at h) (type_rows o (length pre) ts) ≡ Some ts
   types_law pre [] e f = refl
   types_law pre (t ∷ ts) e f =
-      let post = flat (λ (t : TypeRow). t.interfaces) ts in
+      let post = flat_map (λ (t : TypeRow). t.interfaces) ts in
       let one = type_law pre post t e f.0 in
       let more : all_some (type_at h) (type_rows o (length pre + length t.interfaces) ts) ≡ Some ts =
       ap (λ n. all_some (type_at h) (type_rows o n ts)) (sym (length-append pre t.interfaces)) ∙ types_law (pre ++ t.interfaces) ts (e ∙ sym (append_assoc pre t.interfaces post)) f.1 in
@@ -142,11 +143,11 @@ module _ (h : Held) (o : Offsets) where
           ∙ ap (option_map FieldKind.DataField) (at_middle pre d post) in
           λ i. on_both (on_both (option_map make_field (has.name i)) (has.signature i)) (kind i)
 
-  pub fields_law : (pre : List (List ℕ)) (fs : List FieldRow) → h.datas ≡ pre ++ flat (λ f. data_of f.kind) fs → length h.datas < 65535 → Each (FieldHas h o) fs → all_some (field_at h) (field_rows o (length pre) fs) ≡ Some fs
+  pub fields_law : (pre : List (List ℕ)) (fs : List FieldRow) → h.datas ≡ pre ++ flat_map (λ f. data_of f.kind) fs → length h.datas < 65535 → Each (FieldHas h o) fs → all_some (field_at h) (field_rows o (length pre) fs) ≡ Some fs
   fields_law pre [] e small has = refl
   fields_law pre (f ∷ fs) e small has =
       let mine = data_of f.kind in
-      let post = flat (λ (f : FieldRow). data_of f.kind) fs in
+      let post = flat_map (λ (f : FieldRow). data_of f.kind) fs in
       let one = field_law pre post f e (omega (arith, ap (λ (ds : List (List ℕ)). length ds) e, length-append pre (mine ++ post), small)) has.0 in
       let more : all_some (field_at h) (field_rows o (length pre + length mine) fs) ≡ Some fs =
       ap (λ n. all_some (field_at h) (field_rows o n fs)) (sym (length-append pre mine)) ∙ fields_law (pre ++ mine) fs (e ∙ sym (append_assoc pre mine post)) small has.1 in
@@ -192,20 +193,20 @@ module _ (h : Held) (o : Offsets) where
       go Body.Code (Some c) ec ek f =
           read false Body.Code (Some c) (length prec) (length (code_bytes o k c)) (locals_word o k.has_locals c.locals) c.max_stack (first_of (length prek) (length c.clauses)) (length c.clauses) (code_law_of prec postc prek postk k c ec ek small f (flags_of m false) (native_bit false))
       go (Body.Native name) None ec ek f =
-          read true (Body.Native name) None (native_word name) 0 65535 0 0 0
-          (if_true (bit 16 (flags_of m true)) (Some (native_body (native_word name), None)) (if nat_eq (native_word name) 65535 then no_code h 0 [] Body.Missing else code_with h (native_word name) 0 0 [] []) (native_bit true) ∙ ap (λ b. Some (b, None)) (native_law name))
+          read true (Body.Native name) None (native_number name) 0 65535 0 0 0
+          (if_true (bit 16 (flags_of m true)) (Some (native_body (native_number name), None)) (if nat_eq (native_number name) 65535 then no_code h 0 [] Body.Missing else code_with h (native_number name) 0 0 [] []) (native_bit true) ∙ ap (λ b. Some (b, None)) (native_law name))
       go (Body.Native name) (Some c) ec ek f = absurd f
       go Body.Missing None ec ek f =
           read false Body.Missing None 65535 0 65535 0 0 0 (if_false (bit 16 (flags_of m false)) (no_code h 0 [] (native_body 65535)) (Some (Body.Missing, None)) (native_bit false))
       go Body.Missing (Some c) ec ek f = absurd f
 
-  pub methods_law : (prec : List ℕ) (prek : List RawClause) (ms : List (Manner × MethodRow)) → h.code ≡ prec ++ flat (λ x. bytes_in o x.0 x.1.code) ms → h.clauses ≡ prek ++ flat (λ x. clauses_in x.1.code) ms → length h.code ≤ 65535 → Each (λ x. MethodHas h o x.0 x.1) ms → all_some (method_at h) (method_rows o (length prec) (length prek) ms) ≡ Some (map (λ x. x.1) ms)
+  pub methods_law : (prec : List ℕ) (prek : List RawClause) (ms : List (Manner × MethodRow)) → h.code ≡ prec ++ flat_map (λ x. bytes_in o x.0 x.1.code) ms → h.clauses ≡ prek ++ flat_map (λ x. clauses_in x.1.code) ms → length h.code ≤ 65535 → Each (λ x. MethodHas h o x.0 x.1) ms → all_some (method_at h) (method_rows o (length prec) (length prek) ms) ≡ Some (map (λ x. x.1) ms)
   methods_law prec prek [] ec ek small has = refl
   methods_law prec prek (x ∷ ms) ec ek small has =
       let bytes = bytes_in o x.0 x.1.code in
       let cls = clauses_in x.1.code in
-      let postc = flat (λ (x : Manner × MethodRow). bytes_in o x.0 x.1.code) ms in
-      let postk = flat (λ (x : Manner × MethodRow). clauses_in x.1.code) ms in
+      let postc = flat_map (λ (x : Manner × MethodRow). bytes_in o x.0 x.1.code) ms in
+      let postk = flat_map (λ (x : Manner × MethodRow). clauses_in x.1.code) ms in
       let one = method_law prec postc prek postk x.0 x.1 ec ek small has.0 in
       let more : all_some (method_at h) (method_rows o (length prec + length bytes) (length prek + length cls) ms) ≡ Some (map (λ (x : Manner × MethodRow). x.1) ms) =
       ap (λ n. all_some (method_at h) (method_rows o n (length prek + length cls) ms)) (sym (length-append prec bytes))

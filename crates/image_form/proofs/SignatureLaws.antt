@@ -8,8 +8,9 @@ use Rattle.machine.specs.Throw.{on_some}
 use Rattle.image_bytes.specs.Layout.{all_onto, word_onto, Reader, read_word, many}
 use Rattle.image_bytes.proofs.Laws.{Reads, word_law}
 use Rattle.assemblies.specs.Rows.{TypeToken, TypeDef, TypeRef, TypeSpec, MemberToken, Own, Reference, RawType, RawSpelt, RawClass, RawValue, RawArray, RawPlace, RawDirect, RawByRef, RawSignature}
-use Rattle.image_form.specs.Signatures.{type_word, type_token, member_word, member_token, elem_byte, elem_at, raw_onto, place_onto, result_onto, signature_onto, locals_onto, read_named, read_leaf, read_raw, read_type, read_place, read_result, with_returns, with_count, read_signature, read_locals, is_end, whole, depth, IsNamed, HasSpelling, PlaceHas, ResultHas, Each, SignatureHas}
+use Rattle.image_form.specs.Signatures.{type_word, type_token, member_word, member_token, elem_byte, elem_at, raw_onto, place_onto, result_onto, signature_onto, locals_onto, read_named, read_leaf, read_raw, read_type, read_place, read_result, with_returns, with_count, read_signature, read_locals, is_end, whole, depth, IsNamed, HasSpelling, PlaceHas, ResultHas, SignatureHas}
 use Rattle.image_form.specs.Limits.{TypeIsSmall, MemberIsSmall}
+use Rattle.assemblies.specs.Closed.{Each}
 
 -- ---- tokens
 

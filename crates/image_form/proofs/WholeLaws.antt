@@ -4,11 +4,11 @@ use Rattle.std.specs.Option.{option_map}
 use Rattle.machine.specs.Throw.{on_some}
 use Rattle.image_bytes.specs.Layout.{Image}
 use Rattle.assemblies.specs.Rows.{AssemblyRow, Assembly}
-use Rattle.image_form.specs.Signatures.{Each}
 use Rattle.image_form.specs.Form.{on_both, all_some, none_or, Held, name_at, spec_at, assembly_at, ref_at, field_ref_at, method_ref_at, type_at, field_at, interface_at, clause_at, method_at, Offsets, assembly_row, ref_row, field_ref_row, method_ref_row, interface_row, clause_row, spec_row, data_at}
 use Rattle.image_form.specs.Fits.{NameHas, RefHas, FieldRefHas, MethodRefHas, SpecHas, ClauseHas, TokenHas}
 use Rattle.image_form.specs.Whole.{table, bytes_at, texts_in, row_in, held, make_assembly, rows_held, nothing_held, with_datas, with_clauses, with_interfaces, rows_with, image_rows, interfaces_of, clauses_of, datas_of, Methods, Lies, Has}
 use Rattle.image_form.proofs.RowLaws.{all_law, data_law, assembly_law, ref_law, field_ref_law, method_ref_law, spec_law, interface_law, clause_law, types_law, fields_law, methods_law}
+use Rattle.assemblies.specs.Closed.{Each}
 
 -- each of a list, by a law
 pub each_of : {A : Type 0} (P Q : A → Type 0) → ((x : A) → P x → Q x) → (xs : List A) → Each P xs → Each Q xs

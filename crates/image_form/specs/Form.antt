@@ -8,7 +8,7 @@ use Rattle.plain_types.specs.declared.elem.Elem.TheVariants as elem
 use Rattle.cil_opcodes.specs.declared.shape.Row.{Row}
 use Rattle.cil_opcodes.specs.Rows.{row_of}
 use Rattle.machine.specs.Throw.{on_some}
-use Rattle.machine.specs.Program.{Body, NativeName, ObjectToString, EnumEquals, EnumToString, ArrayLength, ArrayCopy, StringLength, StringChars, StringConcat, StringSubstring, StringEquals, StringCompare, StringFromChars, StringFromChar, NumberSigned, NumberUnsigned, InitializeArray, DebugPrint}
+use Rattle.machine.specs.Program.{Body, NativeName, ObjectToString, EnumEquals, EnumToString, ArrayLength, ArrayCopy, StringLength, StringChars, StringConcat, StringSubstring, StringEquals, StringCompare, StringFromChars, StringFromChar, NumberSigned, NumberUnsigned, InitializeArray, DebugPrint, native_number}
 use Rattle.classes.specs.Classes.{FieldKind, TypeKind}
 use Rattle.classes.specs.Queries.{is_integer}
 use Rattle.classes.specs.Code.{CodeClause, Finally}
@@ -62,25 +62,6 @@ units_of (a ∷ []) = None
 units_of (a ∷ b ∷ bytes) = option_map (λ us. (a + 256 * b) ∷ us) (units_of bytes)
 
 -- ---- natives by number
-
-abbrev pub native_word : NativeName → ℕ
-native_word ObjectToString = 1
-native_word EnumEquals = 2
-native_word EnumToString = 3
-native_word ArrayLength = 4
-native_word ArrayCopy = 5
-native_word StringLength = 6
-native_word StringChars = 7
-native_word StringConcat = 8
-native_word StringSubstring = 9
-native_word StringEquals = 10
-native_word StringCompare = 11
-native_word StringFromChars = 12
-native_word StringFromChar = 13
-native_word NumberSigned = 14
-native_word NumberUnsigned = 15
-native_word InitializeArray = 16
-native_word DebugPrint = 17
 
 abbrev pub natives : List Body
 natives =
@@ -405,7 +386,7 @@ module _ (o : Offsets) where
 
   -- code start, length, locals, max stack, first clause and count
   abbrev pub body_words : ℕ → ℕ → Manner → Body → Option RawCode → List ℕ
-  body_words at clause k (Body.Native name) code = native_word name ∷ 0 ∷ 65535 ∷ 0 ∷ 0 ∷ 0 ∷ []
+  body_words at clause k (Body.Native name) code = native_number name ∷ 0 ∷ 65535 ∷ 0 ∷ 0 ∷ 0 ∷ []
   body_words at clause k body None = 65535 ∷ 0 ∷ 65535 ∷ 0 ∷ 0 ∷ 0 ∷ []
   body_words at clause k body (Some c) =
       at ∷ length (code_bytes k c) ∷ locals_word k.has_locals c.locals ∷ c.max_stack ∷ first_of clause (length c.clauses) ∷ length c.clauses ∷ []
@@ -435,7 +416,3 @@ data_rows at (d ∷ ds) = (at ∷ length d ∷ []) ∷ data_rows (at + length d)
 abbrev pub data_at : List ℕ → List ℕ → Option (List ℕ)
 data_at pool (at ∷ n ∷ []) = checked (nat_le (at + n) (length pool)) (part at n pool)
 data_at pool _ = None
-
-abbrev pub flat : {A B : Type 0} → (A → List B) → List A → List B
-flat f [] = []
-flat f (x ∷ xs) = f x ++ flat f xs

@@ -10,12 +10,14 @@ use Rattle.cil_opcodes.specs.Rows.{row_of}
 use Rattle.machine.specs.Program.{Body}
 use Rattle.image_bytes.specs.Layout.{is_range}
 use Rattle.assemblies.specs.Rows.{TypeToken, TypeDef, TypeRef, TypeSpec, MemberToken, Own, Reference, Scope, OfAssembly, Inside, Nowhere, RawType, RawSpelt, RawClass, RawValue, RawArray, RawPlace, RawDirect, RawByRef, RawSignature, AssemblyRow, TypeRefRow, FieldRefRow, MethodRefRow, TypeRow, FieldRow, RawOperand, RawNothing, RawTypeOf, RawField, RawMethod, RawText, RawLine, RawKind, RawCatch, RawFinally, RawOther, RawClause, RawCode, MethodRow, Assembly}
-use Rattle.image_form.specs.Signatures.{Each, elem_byte, elem_at, depth}
+use Rattle.image_form.specs.Signatures.{elem_byte, elem_at, depth}
 use Rattle.image_form.specs.Codes.{Length, Words, size, instr_of, short, IsNumber, IsPlainNumber, IsPlace, ArePlaces}
-use Rattle.image_form.specs.Form.{only_array, clauses_nest, has_room, Offsets, Manner, words, code_bytes, bytes_in, flat}
+use Rattle.image_form.specs.Form.{only_array, clauses_nest, has_room, Offsets, Manner, words, code_bytes, bytes_in}
 use Rattle.image_form.specs.Fits.{KindFits, IsNoLiteral}
 use Rattle.image_pools.specs.Pools.{pool, pool_onto}
 use Rattle.image_form.specs.Whole.{Methods, signatures_walk, offsets, interfaces_of, clauses_of, datas_of}
+use Rattle.assemblies.specs.Closed.{Each}
+use Rattle.std.specs.List.{flat_map}
 
 abbrev pub IsUtf8 : List ℕ → Type 0
 IsUtf8 n = is_utf8 n ≡ true
@@ -39,7 +41,7 @@ pub record Limits (p : Assembly) (ms : Methods) : Type 0 where
   pub specs : length p.specs < 16384
   pub datas : length (datas_of p) < 16384
   pub signatures : length (pool_onto (pool (signatures_walk p ms)) []) ≤ 65535
-  pub code : length (flat (λ x. bytes_in (offsets p ms) x.0 x.1.code) ms) ≤ 65535
+  pub code : length (flat_map (λ x. bytes_in (offsets p ms) x.0 x.1.code) ms) ≤ 65535
 
 module _ (p : Assembly) where
   abbrev pub TokenIn : TypeToken → Type 0

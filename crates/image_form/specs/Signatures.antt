@@ -5,6 +5,7 @@ use Rattle.plain_types.specs.declared.elem.Elem.TheVariants as elem
 use Rattle.machine.specs.Throw.{on_some}
 use Rattle.image_bytes.specs.Layout.{all_onto, word_onto, Reader, read_word, many}
 use Rattle.assemblies.specs.Rows.{TypeToken, TypeDef, TypeRef, TypeSpec, MemberToken, Own, Reference, RawType, RawSpelt, RawClass, RawValue, RawArray, RawPlace, RawDirect, RawByRef, RawSignature}
+use Rattle.assemblies.specs.Closed.{Each}
 
 -- ---- tokens of two bytes
 
@@ -157,10 +158,6 @@ module _ (name : ℕ → Option TypeToken) where
   abbrev pub ResultHas : Option RawType → Type 0
   ResultHas None = Unit {0}
   ResultHas (Some s) = HasSpelling s
-
-abbrev pub Each : {A : Type 0} → (A → Type 0) → List A → Type 0
-Each P [] = Unit {0}
-Each P (x ∷ xs) = P x × Each P xs
 
 module _ (name : ℕ → Option TypeToken) where
   pub record SignatureHas (s : RawSignature) : Type 0 where

@@ -5,9 +5,11 @@ use Rattle.machine.specs.Throw.{on_some}
 use Rattle.image_bytes.specs.Layout.{Image, rows_of, view}
 use Rattle.image_pools.specs.Pools.{Entry, pool, offset, text_at, texts_of, pool_onto}
 use Rattle.assemblies.specs.Rows.{TypeToken, TypeDef, TypeRef, TypeSpec, Scope, OfAssembly, Inside, RawType, AssemblyRow, TypeRefRow, FieldRefRow, MethodRefRow, TypeRow, FieldRow, RawOperand, RawText, RawClause, RawCode, MethodRow, Assembly}
-use Rattle.image_form.specs.Signatures.{Each, type_token, raw_onto, signature_onto, locals_onto}
-use Rattle.image_form.specs.Form.{on_both, all_some, checked, none_or, or_none, units_onto, Held, name_at, spec_at, assembly_at, ref_at, field_ref_at, method_ref_at, type_at, field_at, interface_at, clause_at, method_at, Offsets, Manner, assembly_row, ref_row, field_ref_row, method_ref_row, type_rows, interface_row, field_rows, clause_row, spec_row, method_rows, bytes_in, clauses_in, data_of, data_rows, data_at, flat}
+use Rattle.image_form.specs.Signatures.{type_token, raw_onto, signature_onto, locals_onto}
+use Rattle.image_form.specs.Form.{on_both, all_some, checked, none_or, or_none, units_onto, Held, name_at, spec_at, assembly_at, ref_at, field_ref_at, method_ref_at, type_at, field_at, interface_at, clause_at, method_at, Offsets, Manner, assembly_row, ref_row, field_ref_row, method_ref_row, type_rows, interface_row, field_rows, clause_row, spec_row, method_rows, bytes_in, clauses_in, data_of, data_rows, data_at}
 use Rattle.image_form.specs.Fits.{NameHas, RefHas, FieldRefHas, MethodRefHas, TypeHas, FieldHas, SpecHas, ClauseHas, MethodHas, TokenHas}
+use Rattle.assemblies.specs.Closed.{Each}
+use Rattle.std.specs.List.{flat_map}
 
 -- ---- reading
 
@@ -118,7 +120,7 @@ literals _ = []
 
 abbrev pub literals_in : Option RawCode → List Entry
 literals_in None = []
-literals_in (Some c) = flat (λ l. literals l.operand) c.lines
+literals_in (Some c) = flat_map (λ l. literals l.operand) c.lines
 
 abbrev pub locals_entry : Manner → Option RawCode → List Entry
 locals_entry k None = []
@@ -132,20 +134,20 @@ module _ (p : Assembly) (ms : Methods) where
   strings_walk =
       (name_entry p.name ∷ [])
       ++ (map (λ a. name_entry a.name) p.assemblies
-      ++ (flat (λ r. name_entry r.namespace ∷ name_entry r.name ∷ []) p.refs
+      ++ (flat_map (λ r. name_entry r.namespace ∷ name_entry r.name ∷ []) p.refs
       ++ (map (λ r. name_entry r.name) p.field_refs
       ++ (map (λ r. name_entry r.name) p.method_refs
-      ++ (flat (λ t. name_entry t.namespace ∷ name_entry t.name ∷ []) p.types
+      ++ (flat_map (λ t. name_entry t.namespace ∷ name_entry t.name ∷ []) p.types
       ++ (map (λ f. name_entry f.name) p.fields
       ++ (map (λ x. name_entry x.1.name) ms
-      ++ flat (λ x. literals_in x.1.code) ms)))))))
+      ++ flat_map (λ x. literals_in x.1.code) ms)))))))
 
   abbrev pub signatures_walk : List Entry
   signatures_walk =
       map (λ r. signature_entry (raw_onto r.signature [])) p.field_refs
       ++ (map (λ r. signature_entry (signature_onto r.signature [])) p.method_refs
       ++ (map (λ f. signature_entry (raw_onto f.signature [])) p.fields
-      ++ (flat (λ x. signature_entry (signature_onto x.1.signature []) ∷ locals_entry x.0 x.1.code) ms
+      ++ (flat_map (λ x. signature_entry (signature_onto x.1.signature []) ∷ locals_entry x.0 x.1.code) ms
       ++ map (λ s. signature_entry (raw_onto s [])) p.specs)))
 
   abbrev pub offsets : Offsets
@@ -157,13 +159,13 @@ module _ (p : Assembly) (ms : Methods) where
       }
 
 abbrev pub interfaces_of : Assembly → List TypeToken
-interfaces_of p = flat (λ t. t.interfaces) p.types
+interfaces_of p = flat_map (λ t. t.interfaces) p.types
 
 abbrev pub clauses_of : Methods → List RawClause
-clauses_of ms = flat (λ x. clauses_in x.1.code) ms
+clauses_of ms = flat_map (λ x. clauses_in x.1.code) ms
 
 abbrev pub datas_of : Assembly → List (List ℕ)
-datas_of p = flat (λ f. data_of f.kind) p.fields
+datas_of p = flat_map (λ f. data_of f.kind) p.fields
 
 -- an image lies so for rows, whose texts have these offsets
 pub record Lies (i : Image) (o : Offsets) (p : Assembly) (ms : Methods) (strings signatures : List (List ℕ)) : Type 0 where
@@ -183,8 +185,8 @@ pub record Lies (i : Image) (o : Offsets) (p : Assembly) (ms : Methods) (strings
   pub data_table : table i 10 ≡ data_rows 0 (datas_of p)
   pub string_texts : texts_in (bytes_at i 0) ≡ Some strings
   pub signature_texts : texts_in (bytes_at i 1) ≡ Some signatures
-  pub code : bytes_at i 2 ≡ flat (λ x. bytes_in o x.0 x.1.code) ms
-  pub data_bytes : bytes_at i 3 ≡ flat (λ d. d) (datas_of p)
+  pub code : bytes_at i 2 ≡ flat_map (λ x. bytes_in o x.0 x.1.code) ms
+  pub data_bytes : bytes_at i 3 ≡ flat_map (λ d. d) (datas_of p)
 
 -- everything in the rows has a spelling that is read as it
 pub record Has (i : Image) (h : Held) (o : Offsets) (p : Assembly) (ms : Methods) : Type 0 where
@@ -229,8 +231,8 @@ laid p ms =
       pools =
           pool_onto (pool (strings_walk p ms)) []
           ∷ pool_onto (pool (signatures_walk p ms)) []
-          ∷ flat (λ x. bytes_in o x.0 x.1.code) ms
-          ∷ flat (λ d. d) (datas_of p)
+          ∷ flat_map (λ x. bytes_in o x.0 x.1.code) ms
+          ∷ flat_map (λ d. d) (datas_of p)
           ∷ [];
     }
 

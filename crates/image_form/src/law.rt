@@ -3,10 +3,10 @@ ghost use Rattle.std.specs.Prelude.{◌≡◌, ℕ, List, [], ◌∷◌, Option,
 ghost use Rattle.cil_opcodes.specs.declared.shape.Row.{Row};
 ghost use Rattle.image_bytes.specs.Layout.{onto};
 ghost use Rattle.assemblies.specs.Rows.{RawLine, Assembly};
-ghost use Rattle.image_form.specs.Signatures.{Each};
 ghost use Rattle.image_form.specs.Codes.{Length, Meaning, Words, Instr, IsSound, instrs_of, instrs_onto, instrs_to, lines_of, LinesFit};
 ghost use Rattle.image_form.specs.Whole.{Methods, laid, seen};
 ghost use Rattle.image_form.specs.Limits.{IsSpelt};
+ghost use Rattle.assemblies.specs.Closed.{Each};
 
 /// The image of an assembly's rows, with anything behind it, is seen as this image and these rows.
 pub fn image_is_seen()

@@ -113,6 +113,25 @@ pub data NativeName : Type 0 where
   InitializeArray : NativeName
   DebugPrint : NativeName
 
+abbrev pub native_number : NativeName → ℕ
+native_number ObjectToString = 1
+native_number EnumEquals = 2
+native_number EnumToString = 3
+native_number ArrayLength = 4
+native_number ArrayCopy = 5
+native_number StringLength = 6
+native_number StringChars = 7
+native_number StringConcat = 8
+native_number StringSubstring = 9
+native_number StringEquals = 10
+native_number StringCompare = 11
+native_number StringFromChars = 12
+native_number StringFromChar = 13
+native_number NumberSigned = 14
+native_number NumberUnsigned = 15
+native_number InitializeArray = 16
+native_number DebugPrint = 17
+
 pub data Body : Type 0 where
   Code : Body
   Native : (name : NativeName) → Body
