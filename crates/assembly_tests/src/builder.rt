@@ -1,10 +1,9 @@
 use cil_build::build::{Build, BuildRefusal};
 use cil_build::refs::RefRow;
-use cil_layout::rows::{
-    CLASS_LAYOUT, FIELD, FIELD_RVA, MEMBER_REF, METHOD_DEF, NESTED_CLASS, TABLES, TYPE_DEF,
-};
-use cil_listing::assembly::{open, row_at, text};
+use cil_layout::rows::{FIELD, METHOD_DEF, TABLES, TYPE_DEF};
+use cil_listing::assembly::{open, text};
 use cil_listing::members::listing;
+use cil_rows::{ClassLayoutRow, FieldRvaRow, MemberRefRow, NestedClassRow, find_row};
 use cil_tables::Tables;
 use plain_types::fault::NoMemory;
 use std::alloc::Global;
@@ -141,26 +140,26 @@ fn data_and_references_are_read_back(rt: HostRuntime) -> Result<(), Fail> {
     let file = every_kind(rt.alloc()).ok().ok_or("it is made")?;
     let assembly = open(file.as_slice()).ok().ok_or("no rule is broken")?;
     let tables = &assembly.tables;
-    let data = row_at(tables, FIELD_RVA, 1).ok_or("there is a row of data")?;
-    assert_eq!(rt; data.columns[1], 1);
+    let data = find_row::<FieldRvaRow>(tables, 1).ok_or("there is a row of data")?;
+    assert_eq!(rt; data.field, 1);
     assert_eq!(rt;
-        assembly.pe.at_rva(data.columns[0], 4),
+        assembly.pe.at_rva(data.rva, 4),
         Some([1, 2, 3, 4].as_slice())
     );
-    let member = row_at(tables, MEMBER_REF, 1).ok_or("there is a member")?;
+    let member = find_row::<MemberRefRow>(tables, 1).ok_or("there is a member")?;
     assert_eq!(rt;
-        (member.columns[0], text(tables, member.columns[1])),
+        (member.class, text(tables, member.name)),
         (9, "ToString")
     );
     assert_eq!(rt;
-        tables.blob(member.columns[2]),
+        tables.blob(member.signature),
         Some([0x20, 0, 0x0E].as_slice())
     );
-    let nested = row_at(tables, NESTED_CLASS, 1).ok_or("there is a nested type")?;
-    assert_eq!(rt; (nested.columns[0], nested.columns[1]), (3, 2));
-    let layout = row_at(tables, CLASS_LAYOUT, 1).ok_or("there is a layout")?;
+    let nested = find_row::<NestedClassRow>(tables, 1).ok_or("there is a nested type")?;
+    assert_eq!(rt; (nested.nested, nested.enclosing), (3, 2));
+    let layout = find_row::<ClassLayoutRow>(tables, 1).ok_or("there is a layout")?;
     assert_eq!(rt;
-        (layout.columns[0], layout.columns[1], layout.columns[2]),
+        (layout.packing_size, layout.class_size, layout.parent),
         (0, 4, 3)
     );
     Ok(())

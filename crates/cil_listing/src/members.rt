@@ -1,15 +1,14 @@
 //! The listing: each type with its superclass, and below it its fields and methods with flags and signatures.
 
-ghost use Rattle.std.specs.Prelude.{◌<◌};
-
-use crate::assembly::{Assembly, FIELD, INTERFACE_IMPL, METHOD_DEF, TYPE_DEF, row_at, text};
+use crate::assembly::{Assembly, text};
 use crate::types::{push_type, push_type_def, push_type_name};
-use cil_code::header::body;
-use cil_code::walk::first_fault;
-use cil_sig::sig::SigType;
-use cil_sig::signatures::{field_sig, method_sig};
-use cil_tables::{Row, Tables};
-use pe_reader::Pe;
+use cil_code::{body, first_fault};
+use cil_rows::{FieldRow, InterfaceImplRow, MethodDefRow, TypeDefRow, find_row, read_row};
+use cil_sig::{SigType, field_sig, method_sig};
+use cil_tables::Tables;
+use file_tables::MOST_FILE_BYTES;
+use file_tables::numbers::{FIELD, INTERFACE_IMPL, METHOD_DEF, TYPE_DEF};
+use pe_reader::SectionCursor;
 use std::alloc::{AllocError, Global};
 
 /// A flag and the word for it.
@@ -39,9 +38,6 @@ const METHOD_WORDS: [FlagWord; 4] = [
 
 /// Words for the flags of implementations (II.23.1.11).
 const IMPLEMENTATION_WORDS: [FlagWord; 1] = [(NATIVE, "native ")];
-
-/// The most bytes of a file.
-const MOST_BYTES: usize = 4_194_304;
 
 /// Appends the word for the accessibility in a member's lowest three flags (II.23.1.5, II.23.1.10).
 fn push_access(out: &mut String, flags: u32) -> Result<(), AllocError> {
@@ -75,27 +71,27 @@ fn push_types(out: &mut String, tables: &Tables<'_>, types: &[SigType]) -> Resul
 }
 
 /// Appends the line of a field.
-fn push_field(out: &mut String, tables: &Tables<'_>, row: &Row) -> Result<(), AllocError> {
+fn push_field(out: &mut String, tables: &Tables<'_>, row: &FieldRow) -> Result<(), AllocError> {
     out.push_str("  ")?;
-    push_access(out, row.columns[0])?;
-    push_flags(out, row.columns[0], &FIELD_WORDS)?;
-    match field_sig(tables.blob(row.columns[2]).unwrap_or(&[])) {
+    push_access(out, row.flags)?;
+    push_flags(out, row.flags, &FIELD_WORDS)?;
+    match field_sig(tables.blob(row.signature).unwrap_or(&[])) {
         Ok(of) => push_type(out, tables, &of)?,
         Err(_) => out.push_str("?")?,
     }
     out.push_str(" ")?;
-    out.push_str(text(tables, row.columns[1]))?;
+    out.push_str(text(tables, row.name))?;
     out.push_str("\n")
 }
 
 /// What is told of a method's body: nothing, or that it is missing or too much, that it isn't whole, or that its code
 /// can't be walked from start to end.
-fn body_note(pe: &Pe<'_>, row: &Row) -> &'static str {
-    let has_body = row.columns[0] != 0;
-    let wants_body = row.columns[2] & ABSTRACT == 0 && row.columns[1] & NATIVE == 0;
+fn body_note(cursor: &mut SectionCursor<'_>, row: &MethodDefRow) -> &'static str {
+    let has_body = row.rva != 0;
+    let wants_body = row.flags & ABSTRACT == 0 && row.impl_flags & NATIVE == 0;
     match (has_body, wants_body) {
         (false, false) => "",
-        (true, true) => bytes_note(pe.tail(row.columns[0]).unwrap_or(&[])),
+        (true, true) => bytes_note(cursor.tail(row.rva).unwrap_or(&[])),
         (false, true) => " (no body)",
         (true, false) => " (a body too much)",
     }
@@ -103,7 +99,7 @@ fn body_note(pe: &Pe<'_>, row: &Row) -> &'static str {
 
 /// The same of the bytes from its header on.
 fn bytes_note(bytes: &[u8]) -> &'static str {
-    if bytes.len() > MOST_BYTES {
+    if bytes.len() > MOST_FILE_BYTES {
         return " (body too long)";
     }
     match body(bytes) {
@@ -114,7 +110,7 @@ fn bytes_note(bytes: &[u8]) -> &'static str {
 
 /// The same of code.
 fn code_note(code: &[u8]) -> &'static str {
-    if code.len() > MOST_BYTES {
+    if code.len() > MOST_FILE_BYTES {
         return " (code too long)";
     }
     match first_fault(code) {
@@ -128,17 +124,17 @@ fn push_signature(
     out: &mut String,
     alloc: Global,
     tables: &Tables<'_>,
-    row: &Row,
+    row: &MethodDefRow,
 ) -> Result<(), AllocError> {
-    let name = text(tables, row.columns[3]);
-    match method_sig(alloc, tables.blob(row.columns[4]).unwrap_or(&[])) {
+    let name = text(tables, row.name);
+    match method_sig(alloc, tables.blob(row.signature).unwrap_or(&[])) {
         Ok(sig) => {
             push_type(out, tables, &sig.returns)?;
             out.push_str(" ")?;
             out.push_str(name)?;
             out.push_str("(")?;
             push_types(out, tables, sig.params.as_slice())?;
-            let is_static = row.columns[2] & STATIC != 0;
+            let is_static = row.flags & STATIC != 0;
             out.push_str(if sig.this == is_static {
                 ") against its flag"
             } else {
@@ -156,15 +152,16 @@ fn push_signature(
 fn push_method(
     out: &mut String,
     alloc: Global,
-    assembly: &Assembly<'_>,
-    row: &Row,
+    tables: &Tables<'_>,
+    cursor: &mut SectionCursor<'_>,
+    row: &MethodDefRow,
 ) -> Result<(), AllocError> {
     out.push_str("  ")?;
-    push_access(out, row.columns[2])?;
-    push_flags(out, row.columns[2], &METHOD_WORDS)?;
-    push_flags(out, row.columns[1], &IMPLEMENTATION_WORDS)?;
-    push_signature(out, alloc, &assembly.tables, row)?;
-    out.push_str(body_note(&assembly.pe, row))?;
+    push_access(out, row.flags)?;
+    push_flags(out, row.flags, &METHOD_WORDS)?;
+    push_flags(out, row.impl_flags, &IMPLEMENTATION_WORDS)?;
+    push_signature(out, alloc, tables, row)?;
+    out.push_str(body_note(cursor, row))?;
     out.push_str("\n")
 }
 
@@ -173,50 +170,39 @@ fn push_type_line(
     out: &mut String,
     tables: &Tables<'_>,
     number: u32,
-    row: &Row,
+    row: &TypeDefRow,
 ) -> Result<(), AllocError> {
-    push_flags(out, row.columns[0], &TYPE_WORDS)?;
+    push_flags(out, row.flags, &TYPE_WORDS)?;
     push_type_def(out, tables, number)?;
-    if row.columns[3] != 0 {
+    if row.extends != 0 {
         out.push_str(" : ")?;
-        push_type_name(out, tables, row.columns[3])?;
+        push_type_name(out, tables, row.extends)?;
     }
     out.push_str("\n")
 }
 
-/// Where the members of a type end in their table: at those of the next type, or behind the last row (II.22.37).
-fn end_of(tables: &Tables<'_>, number: u32, column: usize, table: u8) -> u32
-    requires { column < 9 }
-{
-    match row_at(tables, TYPE_DEF, number.saturating_add(1)) {
-        Some(next) => next.columns[column],
-        None => tables.rows(table).saturating_add(1),
-    }
+/// Behind the last row of a table.
+fn behind_last(tables: &Tables<'_>, table: u8) -> u32 {
+    tables.rows(table).saturating_add(1)
 }
 
-/// Appends the lines of a type and its members.
+/// Appends the lines of a type and its members, which end where those of the next type begin, or with the last row of
+/// their table (II.22.37).
 fn push_class(
     out: &mut String,
     alloc: Global,
-    assembly: &Assembly<'_>,
+    tables: &Tables<'_>,
+    cursor: &mut SectionCursor<'_>,
     number: u32,
-    row: &Row,
+    row: &TypeDefRow,
 ) -> Result<(), AllocError> {
-    let tables = &assembly.tables;
     push_type_line(out, tables, number, row)?;
-    push_fields(
-        out,
-        tables,
-        row.columns[4],
-        end_of(tables, number, 4, FIELD),
-    )?;
-    push_methods(
-        out,
-        alloc,
-        assembly,
-        row.columns[5],
-        end_of(tables, number, 5, METHOD_DEF),
-    )
+    let (fields_end, methods_end) = match find_row::<TypeDefRow>(tables, number.saturating_add(1)) {
+        Some(next) => (next.first_field, next.first_method),
+        None => (behind_last(tables, FIELD), behind_last(tables, METHOD_DEF)),
+    };
+    push_fields(out, tables, row.first_field, fields_end)?;
+    push_methods(out, alloc, tables, cursor, row.first_method, methods_end)
 }
 
 /// Appends the fields of some rows.
@@ -227,7 +213,7 @@ fn push_fields(
     end: u32,
 ) -> Result<(), AllocError> {
     for number in first..end {
-        if let Some(field) = row_at(tables, FIELD, number) {
+        if let Some(field) = find_row::<FieldRow>(tables, number) {
             push_field(out, tables, &field)?;
         }
     }
@@ -238,13 +224,14 @@ fn push_fields(
 fn push_methods(
     out: &mut String,
     alloc: Global,
-    assembly: &Assembly<'_>,
+    tables: &Tables<'_>,
+    cursor: &mut SectionCursor<'_>,
     first: u32,
     end: u32,
 ) -> Result<(), AllocError> {
     for number in first..end {
-        if let Some(method) = row_at(&assembly.tables, METHOD_DEF, number) {
-            push_method(out, alloc, assembly, &method)?;
+        if let Some(method) = find_row::<MethodDefRow>(tables, number) {
+            push_method(out, alloc, tables, cursor, &method)?;
         }
     }
     Ok(())
@@ -253,10 +240,10 @@ fn push_methods(
 /// Appends a line for each row of InterfaceImpl.
 fn push_interfaces(out: &mut String, tables: &Tables<'_>) -> Result<(), AllocError> {
     for number in 1..=tables.rows(INTERFACE_IMPL) {
-        let row = tables.row(INTERFACE_IMPL, number);
-        push_type_def(out, tables, row.columns[0])?;
+        let row: InterfaceImplRow = read_row(tables, number);
+        push_type_def(out, tables, row.class)?;
         out.push_str(" implements ")?;
-        push_type_name(out, tables, row.columns[1])?;
+        push_type_name(out, tables, row.interface)?;
         out.push_str("\n")?;
     }
     Ok(())
@@ -266,10 +253,12 @@ fn push_interfaces(out: &mut String, tables: &Tables<'_>) -> Result<(), AllocErr
 /// code can't be walked from start to end is told at its method.
 pub fn listing(alloc: Global, assembly: &Assembly<'_>) -> Result<String, AllocError> {
     let mut out = String::new(alloc);
-    for number in 1..=assembly.tables.rows(TYPE_DEF) {
-        let row = assembly.tables.row(TYPE_DEF, number);
-        push_class(&mut out, alloc, assembly, number, &row)?;
+    let tables = &assembly.tables;
+    let mut cursor = assembly.pe.cursor();
+    for number in 1..=tables.rows(TYPE_DEF) {
+        let row: TypeDefRow = read_row(tables, number);
+        push_class(&mut out, alloc, tables, &mut cursor, number, &row)?;
     }
-    push_interfaces(&mut out, &assembly.tables)?;
+    push_interfaces(&mut out, tables)?;
     Ok(out)
 }

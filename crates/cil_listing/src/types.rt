@@ -1,7 +1,8 @@
 //! Types in words: full names, and the names that C# has for the elements of signatures.
 
-use crate::assembly::{TYPE_DEF, TYPE_REF, row_at, text};
-use cil_sig::sig::SigType;
+use crate::assembly::text;
+use cil_rows::{TypeDefRow, TypeRefRow, find_row};
+use cil_sig::SigType;
 use cil_tables::Tables;
 use plain_types::elem::Elem;
 use std::alloc::AllocError;
@@ -17,28 +18,16 @@ fn push_full_name(out: &mut String, namespace: &str, name: &str) -> Result<(), A
 
 /// Appends the full name of a row of TypeDef.
 pub fn push_type_def(out: &mut String, tables: &Tables<'_>, number: u32) -> Result<(), AllocError> {
-    match row_at(tables, TYPE_DEF, number) {
-        Some(row) => {
-            push_full_name(
-                out,
-                text(tables, row.columns[2]),
-                text(tables, row.columns[1]),
-            )
-        }
+    match find_row::<TypeDefRow>(tables, number) {
+        Some(row) => push_full_name(out, text(tables, row.namespace), text(tables, row.name)),
         None => out.push_str("?"),
     }
 }
 
 /// Appends the full name of a row of TypeRef.
 fn push_type_ref(out: &mut String, tables: &Tables<'_>, number: u32) -> Result<(), AllocError> {
-    match row_at(tables, TYPE_REF, number) {
-        Some(row) => {
-            push_full_name(
-                out,
-                text(tables, row.columns[2]),
-                text(tables, row.columns[1]),
-            )
-        }
+    match find_row::<TypeRefRow>(tables, number) {
+        Some(row) => push_full_name(out, text(tables, row.namespace), text(tables, row.name)),
         None => out.push_str("?"),
     }
 }

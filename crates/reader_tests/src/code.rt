@@ -1,6 +1,9 @@
 //! Bodies and instructions.
 
-use cil_code::{Clause, CodeFault, FAULTY_BODY, Instr, NO_SUCH_OPCODE, PAST_THE_END, SWITCH, body, first_fault, instruction, switch_target};
+use cil_code::{
+    Clause, CodeFault, FAULTY_BODY, Instr, NO_SUCH_OPCODE, PAST_THE_END, SWITCH, body, first_fault,
+    instruction, switch_target,
+};
 use std::test::Fail;
 
 fn fault(rule: u8, offset: u32) -> CodeFault {

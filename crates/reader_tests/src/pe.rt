@@ -68,7 +68,11 @@ fn has_parts(rt: &impl Abort, pe: &Pe<'_>) {
         (0x1FFF, 0),
         (0x204B, 1),
     ] {
-        assert_eq!(rt; cursor.tail(rva).map_or(0, |rest| rest.len()), len, "at {rva}");
+        assert_eq!(rt;
+            cursor.tail(rva).map_or(0, |rest| rest.len()),
+            len,
+            "at {rva}"
+        );
     }
 }
 

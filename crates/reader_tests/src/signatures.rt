@@ -1,6 +1,8 @@
 //! Signatures.
 
-use cil_sig::{Position, SigFault, SigType, element_place, field_sig, locals_sig, method_sig, spec_sig};
+use cil_sig::{
+    Position, SigFault, SigType, element_place, field_sig, locals_sig, method_sig, spec_sig,
+};
 use plain_types::elem::Elem;
 use std::test::Fail;
 

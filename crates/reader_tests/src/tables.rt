@@ -66,7 +66,9 @@ fn has_rows(rt: &impl Abort, tables: &Tables<'_>) {
         assert!(rt; is_text(tables, library.columns[6], "mscorlib"));
     }
     let class: Option<TypeDefRow> = find_row(tables, 2);
-    assert!(rt; class.is_some_and(|class| is_text(tables, class.name, "Program") && class.extends == 5));
+    assert!(rt;
+        class.is_some_and(|class| is_text(tables, class.name, "Program") && class.extends == 5)
+    );
     let nested: Option<NestedClassRow> = find_row(tables, 1);
     assert!(rt; nested.is_none());
     assert!(rt; is_text(tables, 58, "rogram"));
