@@ -1,0 +1,5 @@
+pub mod Elsewhere
+pub mod Heaps
+pub mod Fresh
+pub mod Stacks
+pub mod Waits

@@ -1,0 +1,1 @@
+//! What things are, and what their places hold.
