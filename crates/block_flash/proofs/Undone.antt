@@ -1,5 +1,5 @@
 -- What an entry kept gives the content before its operation back.
-use Rattle.std.proofs.Common.{◌≡◌, ℕ, ◌+◌, ◌-◌, ◌<◌, ◌≤◌, Bool, true, false, List, [], ◌∷◌, ◌++◌, length, take, drop, refl, sym, ap, ◌∙◌, arith}
+use Rattle.std.proofs.Common.{◌≡◌, ℕ, ◌+◌, ◌-◌, ◌<◌, Bool, true, false, List, [], ◌∷◌, ◌++◌, length, take, drop, refl, sym, ap, ◌∙◌, arith}
 use Rattle.std.specs.Prelude.{reverse, ◌==◌, slice_index, if◌then◌else◌}
 use Rattle.std.proofs.lemmas.List.{ext_get_or, get_or-take, get_or-drop, reverse-append}
 use Rattle.std.proofs.lemmas.Bool.{eqb-true}

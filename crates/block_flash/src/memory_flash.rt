@@ -8,9 +8,9 @@ ghost use Rattle.flash_trait.specs.FlashCalls.{FlashState, IsDue, Completes, IsC
 ghost use Rattle.flash_trait.specs.declared.flash.Stop.{Stop};
 
 use crate::change::{Change, Entry};
+use flash_trait::flash::{Flash, FlashErr, Stop};
 use outside_in_memory::calls::Calls;
 use plain_types::fault::NoMemory;
-use flash_trait::flash::{Flash, FlashErr, Stop};
 use plain_types::list::Items;
 use std::alloc::Global;
 

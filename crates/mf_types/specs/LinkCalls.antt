@@ -1,5 +1,5 @@
 -- What the calls of a link and of a hub do.
-use Rattle.std.specs.Prelude.{◌≡◌, not, ◌^◌, ℕ, ◌+◌, ◌<◌, ◌≤◌, ◌==◌, min, Bool, true, false, IsTrue, List, [], ◌∷◌, ◌++◌, length, take, drop, if◌then◌else◌, nat_le, Option}
+use Rattle.std.specs.Prelude.{◌≡◌, not, ◌^◌, ℕ, ◌+◌, ◌<◌, ◌≤◌, ◌==◌, min, Bool, true, false, IsTrue, List, [], ◌∷◌, ◌++◌, length, take, drop, if◌then◌else◌, nat_le, Option, None}
 use Rattle.plain_types.specs.Counts.{Rose}
 use Rattle.plain_types.specs.Schedule.{Schedule, after_call}
 use Rattle.mf_types.specs.declared.link.Coming.{Coming}
@@ -11,6 +11,30 @@ pub record Sent : Type 0 where
   pub taken : ℕ
   pub answers : ℕ
   pub silences : ℕ
+
+-- what a hub is: nothing yet, one that started a board at a port, or one that listens, asked for a port and given one.
+-- The given port is 0 unless listening began
+pub data Role : Type 0 where
+  Unused : Role
+  Starter : (port : ℕ) → Role
+  Listener : (asked given : ℕ) → Role
+
+abbrev pub is_listening : Role → Bool
+is_listening Unused = false
+is_listening (Starter port) = false
+is_listening (Listener asked given) = not (given == 0)
+
+-- what is known of a hub besides its link
+pub record HubState : Type 0 where
+  pub role : Role
+  -- how often a board couldn't be started; it never falls, and ends at 2 ^ 64 - 1
+  pub start_faults : ℕ
+  -- which of the calls that a hub adds to a link fail, where that is known beforehand
+  pub schedule : Option Schedule
+
+-- a link that is no hub
+abbrev pub no_hub : HubState
+no_hub = record { role = Unused; start_faults = 0; schedule = None }
 
 -- all that is known of a link
 pub record LinkState : Type 0 where
@@ -31,6 +55,8 @@ pub record LinkState : Type 0 where
   pub taken : ℕ
   -- which calls fail, and for how many bytes sent there is room, where that is known beforehand
   pub schedule : Option Schedule
+  -- what is known of it as a hub
+  pub hub : HubState
 
 -- the bytes that were sent, joined
 abbrev pub sent_bytes : List Sent → List ℕ
@@ -52,6 +78,7 @@ pub record SendKeeps (old new : LinkState) : Type 0 where
   pub silences : new.silences ≡ old.silences
   pub answers : new.answers ≡ old.answers
   pub taken : new.taken ≡ old.taken
+  pub hub : new.hub ≡ old.hub
 
 -- the bytes were sent
 pub record IsSent (bytes : List ℕ) (old new : LinkState) : Type 0 where
@@ -74,6 +101,7 @@ pub record ReceiveKeeps (old new : LinkState) : Type 0 where
   pub telling : new.tells ≡ old.tells
   pub sends : IsTrue old.tells → new.sends ≡ old.sends
   pub schedule : new.schedule ≡ after_call old.schedule 0
+  pub hub : new.hub ≡ old.hub
 
 -- the first piece, as much of it as fits, and what is left to come
 pub record TakesPiece (n : ℕ) (into : List ℕ) (old new : List Coming) : Type 0 where
@@ -124,26 +152,6 @@ abbrev pub HasRoom : LinkState → Type 0
 HasRoom link = (link.answers < 2 ^ 60) × (link.taken < 2 ^ 60)
 
 -- ---- hubs
-
--- what a hub is: nothing yet, one that started a board at a port, or one that listens, asked for a port and given one.
--- The given port is 0 unless listening began
-pub data Role : Type 0 where
-  Unused : Role
-  Starter : (port : ℕ) → Role
-  Listener : (asked given : ℕ) → Role
-
-abbrev pub is_listening : Role → Bool
-is_listening Unused = false
-is_listening (Starter port) = false
-is_listening (Listener asked given) = not (given == 0)
-
--- what is known of a hub besides its link
-pub record HubState : Type 0 where
-  pub role : Role
-  -- how often a board couldn't be started; it never falls, and ends at 2 ^ 64 - 1
-  pub start_faults : ℕ
-  -- which of the calls that a hub adds to a link fail, where that is known beforehand
-  pub schedule : Option Schedule
 
 -- the hub after a call that left it with this role
 abbrev pub with_role : HubState → Role → HubState

@@ -29,8 +29,8 @@ has_datagrams connections.Bytes = false
 has_datagrams connections.Datagrams = true
 
 -- the link of the newest connection; its faults are those of the link and of the calls that begin connections
-abbrev pub over_link : LinkState → Connection → ℕ → LinkState
-over_link s connection faults =
+abbrev pub over_link : LinkState → Connection → ℕ → HubState → LinkState
+over_link s connection faults hub =
     record {
       ready = is_ready connection;
       datagrams = has_datagrams connection;
@@ -42,7 +42,8 @@ over_link s connection faults =
       answers = s.answers;
       taken = s.taken;
       schedule = s.schedule;
+      hub = hub;
     }
 
 abbrev pub hub_link : MemoryHub → LinkState
-hub_link h = over_link (link_of h.link) h.connection h.dial_faults
+hub_link h = over_link (link_of h.link) h.connection h.dial_faults (hub_of h)

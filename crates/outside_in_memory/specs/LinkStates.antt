@@ -1,6 +1,6 @@
 -- What is known of a link in memory.
 use Rattle.std.specs.Prelude.{true, false, Some}
-use Rattle.mf_types.specs.LinkCalls.{LinkState}
+use Rattle.mf_types.specs.LinkCalls.{LinkState, no_hub}
 use Rattle.outside_in_memory.specs.Schedules.{schedule_of}
 use Rattle.outside_in_memory.specs.SendLog.{sends_of}
 use Rattle.outside_in_memory.specs.declared.memory_link.MemoryLink.{MemoryLink}
@@ -18,4 +18,5 @@ link_of l =
       answers = l.answers;
       taken = l.taken;
       schedule = Some (schedule_of l.calls l.log.spare);
+      hub = no_hub;
     }

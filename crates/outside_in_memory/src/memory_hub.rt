@@ -46,12 +46,11 @@ impl MemoryHub {
     /// A hub over a link, which isn't ready and has no role yet. The port isn't 0.
     pub fn new(link: MemoryLink, port: u16, fails: Vec<u32>) -> Self
         requires { 0 < port }
-        ensures hub { ⟦<MemoryHub as Hub>⟧.hub result ≡ record {
+        ensures { ⟦<MemoryHub as Link>⟧.state result ≡ over_link (⟦<MemoryLink as Link>⟧.state link) Connection.None 0 (record {
           role = Unused;
           start_faults = 0;
           schedule = Some (record { fails = fails.items; made = 0; room = 0 });
-        } }
-        ensures link { ⟦<MemoryHub as Link>⟧.state result ≡ over_link (⟦<MemoryLink as Link>⟧.state link) Connection.None 0 }
+        }) }
     {
         MemoryHub {
             link,
@@ -89,10 +88,6 @@ impl Link for MemoryHub {
 }
 
 impl Hub for MemoryHub {
-    ghost use Rattle.outside_in_memory.specs.HubStates.{hub_of};
-
-    ghost hub = { hub_of };
-
     fn start_board(&mut self) -> Result<u16, Failed> {
         if self.calls.count(0, 0) {
             self.start_faults = self.start_faults.saturating_add(1);

@@ -2,14 +2,14 @@
 
 ghost use Rattle.std.specs.Prelude.{◌≡◌, ◌≤◌, [], Some, IfOk, true, false};
 ghost use Rattle.std.specs.List.{list_all};
-ghost use Rattle.mf_types.specs.LinkCalls.{LinkState, sent_bytes};
+ghost use Rattle.mf_types.specs.LinkCalls.{LinkState, no_hub, sent_bytes};
 ghost use Rattle.outside_in_memory.specs.Queued.{has_bytes};
 
 use crate::calls::Calls;
-use plain_types::fault::{Failed, NoMemory};
-use mf_types::link::{Coming, Got, Link};
 use crate::queue::Queue;
 use crate::send_log::SendLog;
+use mf_types::link::{Coming, Got, Link};
+use plain_types::fault::{Failed, NoMemory};
 use std::alloc::Global;
 use std::collections::VecDeque;
 
@@ -47,6 +47,7 @@ impl MemoryLink {
           answers = 0;
           taken = 0;
           schedule = Some (record { fails = fails.items; made = 0; room = room });
+          hub = no_hub;
         }) }
     {
         let log = SendLog::new(alloc, room)?;

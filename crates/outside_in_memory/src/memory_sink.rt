@@ -4,8 +4,8 @@ ghost use Rattle.std.specs.Prelude.{◌≡◌, ◌+◌, ◌≤◌, [], Some, IfO
 ghost use Rattle.outside_in_memory.specs.Schedules.{schedule_of};
 
 use crate::calls::Calls;
-use plain_types::fault::{Failed, NoMemory};
 use mf_types::sink::Sink;
+use plain_types::fault::{Failed, NoMemory};
 use std::alloc::Global;
 
 /// Bytes in memory, up to a bound.

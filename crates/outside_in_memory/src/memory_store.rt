@@ -4,10 +4,10 @@ ghost use Rattle.std.specs.Prelude.{◌≡◌, Some, None, OnOk, true, option_ma
 ghost use Rattle.mf_types.specs.Files.{bytes_under, OthersStay};
 
 use crate::calls::Calls;
-use plain_types::fault::NoMemory;
 use mf_types::files::NamedFile;
-use plain_types::list::{Items, Text};
 use mf_types::store::{FailedCall, Store, StoreErr};
+use plain_types::fault::NoMemory;
+use plain_types::list::{Items, Text};
 use std::alloc::Global;
 
 /// Files in memory. Of several files of one name the last one counts.
