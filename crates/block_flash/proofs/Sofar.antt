@@ -3,7 +3,7 @@ use Rattle.std.proofs.Common.{◌≡◌, ℕ, ◌+◌, ◌-◌, ◌%◌, ◌<◌
 use Rattle.std.specs.Prelude.{nat_le, nat_lt, slice_index, slice_set, if◌then◌else◌}
 use Rattle.std.proofs.lemmas.List.{ext_get_or}
 use Rattle.std.proofs.lemmas.Bool.{cases_lt, cases_eq, and_from, and_left, and_right, le-leb, lt-leb, lt-ltb, le-ltb}
-use Rattle.flash_trait.specs.Flash.{Operation, start, span, covers, chosen, cut}
+use Rattle.flash_trait.specs.Flash.{Operation, AreBytes, start, span, covers, chosen, cut}
 use Rattle.flash_trait.proofs.FlashContents.{length-by_place, get-by_place}
 
 -- the mask byte of the i-th byte
@@ -76,6 +76,13 @@ sofar_more op mask old now n v sofar within is =
           ];
     }
 
+-- the same, where the range begins at s
+pub sofar_at : (op : Operation) (mask old now : List ℕ) (n v s : ℕ) → s ≡ start op → Sofar op mask n old now → s + n < length old
+    → v ≡ chosen op n (mask_byte mask n) (slice_index now (s + n)) → Sofar op mask (n + 1) old (slice_set now (s + n) v)
+sofar_at op mask old now n v s at sofar within is =
+    let P : ℕ → Type 0 = λ b. b + n < length old → v ≡ chosen op n (mask_byte mask n) (slice_index now (b + n)) → Sofar op mask (n + 1) old (slice_set now (b + n) v) in
+    subst P (sym at) (λ w e. sofar_more op mask old now n v sofar w e) within is
+
 pub sofar_all : (op : Operation) (mask old now : List ℕ) → Sofar op mask (span op) old now → now ≡ cut op mask old
 unfolding cut
 sofar_all op mask old now sofar =
@@ -83,3 +90,11 @@ sofar_all op mask old now sofar =
     (λ i below.
     let within : i < length old = omega (arith, sofar.size) in
     sofar.bytes i within ∙ sym (get-by_place (λ place byte. if covers op place then chosen op (place - start op) (mask_byte mask (place - start op)) byte else byte) old i within))
+
+-- a byte is written among bytes
+pub set_bytes : (now : List ℕ) (at v : ℕ) → at < length now → v < 256 → AreBytes now → AreBytes (slice_set now at v)
+set_bytes now at v within small bytes place =
+    elim (cases_eq place at) [
+      | inl here ↦ subst (λ (p : ℕ). slice_index (slice_set now at v) p < 256) (sym here) (subst (λ (b : ℕ). b < 256) (sym (get_or-set_same now at v 0 within)) small)
+      | inr other ↦ subst (λ (b : ℕ). b < 256) (sym (get_or-set_other now at place v 0 other)) (bytes place)
+    ]

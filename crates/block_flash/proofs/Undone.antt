@@ -1,5 +1,5 @@
 -- What an entry kept gives the content before its operation back.
-use Rattle.std.proofs.Common.{◌≡◌, ℕ, ◌+◌, ◌-◌, ◌<◌, ◌≤◌, Bool, true, false, List, [], ◌∷◌, ◌++◌, length, take, drop, refl, sym, ap, ◌∙◌, arith}
+use Rattle.std.proofs.Common.{◌≡◌, ℕ, ◌+◌, ◌-◌, ◌<◌, Bool, true, false, List, [], ◌∷◌, ◌++◌, length, take, drop, refl, sym, ap, ◌∙◌, arith}
 use Rattle.std.specs.Prelude.{reverse, ◌==◌, slice_index, if◌then◌else◌}
 use Rattle.std.proofs.lemmas.List.{ext_get_or, get_or-take, get_or-drop, reverse-append}
 use Rattle.std.proofs.lemmas.Bool.{eqb-true}
@@ -51,8 +51,3 @@ pub history-keeps : (op : Operation) (entries entries' : List Entry) (old new : 
     → history entries' new ≡ history entries old ++ (record { operation = op; before = old }) ∷ []
 history-keeps op entries entries' old new keeps stopped =
     ap (λ (es : List Entry). history es new) keeps.log ∙ history-push entries keeps.entry op old new keeps.operation keeps.before stopped
-
--- the room that is left
-pub spare_left : (b : Bool) (room n m : ℕ) → m ≡ n + 1 → (if b then room - n else 0) ≤ (if b then room - m else 0) + 1
-spare_left true room n m e = omega arith
-spare_left false room n m e = omega arith

@@ -1,3 +1,4 @@
 pub mod Change
+pub mod Failing
 pub mod History
 pub mod State

@@ -1,6 +1,7 @@
 -- What is known of a flash in memory.
-use Rattle.std.specs.Prelude.{◌-◌, ◌==◌, true, length, vec_len, if◌then◌else◌}
+use Rattle.std.specs.Prelude.{ℕ, true, List, Some}
 use Rattle.flash_trait.specs.FlashCalls.{FlashState}
+use Rattle.outside_in_memory.specs.Schedules.{schedule_of}
 use Rattle.block_flash.specs.declared.memory_flash.MemoryFlash.{MemoryFlash}
 use Rattle.block_flash.specs.History.{history}
 
@@ -14,5 +15,9 @@ state_of f =
       stops = f.stops;
       tells = true;
       log = history f.log.items f.content.items;
-      spare = if length f.fails.items == 0 then f.room - vec_len f.log else 0;
+      schedule = Some (schedule_of f.calls f.spare);
     }
+
+-- the mask by which an operation inside the room leaves the content where it is due to fail
+abbrev pub fail_mask_of : MemoryFlash → List ℕ
+fail_mask_of f = f.fail_mask

@@ -28,13 +28,6 @@ pub struct Entry {
     pub before: ArrayVec<u8, 8192>,
 }
 
-/// The law that a content's items are bytes.
-fn are_bytes(content: &[u8])
-    ensures { AreBytes content.now }
-{
-    let _length = content.len();
-}
-
 impl Change<'_> {
     /// Where the range of the operation begins.
     fn start(&self) -> usize
@@ -111,8 +104,10 @@ impl Change<'_> {
     pub fn make(&self, content: &mut [u8], mask: &[u8])
         requires possible { IsPossible (operation_of self.now) }
         requires whole { length content.old ≡ 262144 }
+        requires bytes { AreBytes content.old }
         requires mask { 0 < length mask.now }
-        ensures { content.new ≡ cut (operation_of self.now) mask.now content.old }
+        ensures content { content.new ≡ cut (operation_of self.now) mask.now content.old }
+        ensures bytes { AreBytes content.new }
     {
         let start = self.start();
         for i in 0..self.span() {
@@ -125,9 +120,10 @@ impl Change<'_> {
     pub fn make_whole(&self, content: &mut [u8])
         requires possible { IsPossible (operation_of self.now) }
         requires whole { length content.old ≡ 262144 }
-        ensures { content.new ≡ after (operation_of self.now) content.old }
+        requires bytes { AreBytes content.old }
+        ensures content { content.new ≡ after (operation_of self.now) content.old }
+        ensures bytes { AreBytes content.new }
     {
-        are_bytes(content);
         self.make(content, &[0xFF]);
     }
 }

@@ -3,3 +3,5 @@
 
 pub mod change;
 pub mod memory_flash;
+
+pub use memory_flash::MemoryFlash;

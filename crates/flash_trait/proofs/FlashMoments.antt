@@ -87,3 +87,28 @@ moments_weaker P Q weaker first last at =
       telling = at.telling;
       moments = λ tells. let so = at.moments tells in (so.0, so.1, AtEach-weaker P Q weaker so.0 so.2);
     }
+
+AtEach-append : (P : List ℕ → Type 0) (ds es : List Done) → AtEach P ds → AtEach P es → AtEach P (ds ++ es)
+AtEach-append P [] es a b = b
+AtEach-append P (d ∷ ds) es a b = (a.0, AtEach-append P ds es a.1 b)
+
+-- the moments of two calls, one after the other, are those of both
+pub moments_join : (P : List ℕ → Type 0) (first middle last : FlashState) → AtEachMoment first middle P → AtEachMoment middle last P → AtEachMoment first last P
+moments_join P first middle last a b =
+    record {
+      end = b.end;
+      telling = b.telling ∙ a.telling;
+      moments = λ tells.
+          let x = a.moments tells in
+          let y = b.moments (a.telling ∙ tells) in
+          (x.0 ++ y.0, y.1 ∙ ap (λ (l : List Done). l ++ y.0) x.1 ∙ append_assoc first.log x.0 y.0, AtEach-append P x.0 y.0 x.2 y.2);
+    }
+
+-- a call that leaves content and record adds no moment, as arming and turning on
+pub moments_stay : (P : List ℕ → Type 0) (first old new : FlashState) → AtEachMoment first old P → new.content ≡ old.content → new.log ≡ old.log → new.tells ≡ old.tells → AtEachMoment first new P
+moments_stay P first old new a content log tells =
+    record {
+      end = subst P (sym content) a.end;
+      telling = tells ∙ a.telling;
+      moments = λ t. let x = a.moments t in (x.0, log ∙ x.1, x.2);
+    }

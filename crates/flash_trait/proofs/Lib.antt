@@ -1,3 +1,4 @@
 pub mod FlashBytes
 pub mod FlashContents
 pub mod FlashMoments
+pub mod Operations

@@ -1,6 +1,7 @@
 -- What the calls of a flash do, and the contents at the moments of a call.
-use Rattle.std.specs.Prelude.{◌≡◌, ℕ, ◌+◌, ◌-◌, ◌≤◌, ◌⊎◌, Bool, false, IsTrue, List, [], ◌∷◌, ◌++◌, nat_lt, Option, Some, None, if◌then◌else◌}
+use Rattle.std.specs.Prelude.{◌≡◌, ℕ, ◌-◌, ◌≤◌, ◌⊎◌, Bool, false, IsTrue, List, [], ◌∷◌, ◌++◌, map, take, nat_lt, Option, Some, None, if◌then◌else◌}
 use Rattle.plain_types.specs.Counts.{Rose}
+use Rattle.plain_types.specs.Schedule.{Schedule, after_call}
 use Rattle.flash_trait.specs.Flash.{Operation, after, cut, IsStopped}
 use Rattle.flash_trait.specs.declared.flash.Stop.{Stop}
 
@@ -22,8 +23,8 @@ pub record FlashState : Type 0 where
   -- whether the log is the record of all operations, but for failed ones that changed nothing
   pub tells : Bool
   pub log : List Done
-  -- for how many further operations it is promised that none fails
-  pub spare : ℕ
+  -- which operations fail, and for how many there is room, where that is known beforehand
+  pub schedule : Option Schedule
 
 -- the next operation is the one to be stopped
 abbrev pub IsDue : Option Stop → Type 0
@@ -49,7 +50,7 @@ pub record Completes (op : Operation) (old new : FlashState) : Type 0 where
   pub stops : new.stops ≡ old.stops
   pub telling : new.tells ≡ old.tells
   pub log : Logs op old new
-  pub spare : old.spare ≤ new.spare + 1
+  pub schedule : new.schedule ≡ after_call old.schedule 1
 
 -- the armed stop came: the content is the one that its mask spells, and the flash is off
 pub record IsCut (op : Operation) (old new : FlashState) : Type 0 where
@@ -60,7 +61,7 @@ pub record IsCut (op : Operation) (old new : FlashState) : Type 0 where
   pub stops : Rose old.stops new.stops
   pub telling : new.tells ≡ old.tells
   pub log : Logs op old new
-  pub spare : old.spare ≤ new.spare + 1
+  pub schedule : new.schedule ≡ after_call old.schedule 1
 
 -- the flash failed: the content is one that a stop may leave, and the flash stays on
 pub record IsFailed (op : Operation) (old new : FlashState) : Type 0 where
@@ -72,7 +73,7 @@ pub record IsFailed (op : Operation) (old new : FlashState) : Type 0 where
   pub telling : new.tells ≡ old.tells
   -- where nothing changed the operation may be missing in the log
   pub log : Logs op old new ⊎ ((new.content ≡ old.content) × (new.log ≡ old.log))
-  pub spare : old.spare ≤ new.spare + 1
+  pub schedule : new.schedule ≡ after_call old.schedule 1
 
 -- P holds before each of these operations, and of all that a stop of it may leave
 abbrev pub AtEach : (List ℕ → Type 0) → List Done → Type 0
@@ -85,3 +86,12 @@ pub record AtEachMoment (old new : FlashState) (P : List ℕ → Type 0) : Type 
   pub end : P new.content
   pub telling : new.tells ≡ old.tells
   pub moments : IsTrue old.tells → (done : List Done) × (new.log ≡ old.log ++ done) × AtEach P done
+
+-- these operations were made, where the flash tells, each once and in order
+pub record Made (operations : List Operation) (old new : FlashState) : Type 0 where
+  pub telling : new.tells ≡ old.tells
+  pub log : IsTrue old.tells → (done : List Done) × (new.log ≡ old.log ++ done) × (map (λ d. d.operation) done ≡ operations)
+
+-- a front of these operations was made, each once and in order
+abbrev pub MadeFront : List Operation → FlashState → FlashState → Type 0
+MadeFront wanted old new = (n : ℕ) × Made (take n wanted) old new

@@ -1,8 +1,9 @@
 //! The flash of a board: 32 sectors of 8,192 bytes.
 
-ghost use Rattle.std.specs.Prelude.{◌≡◌, ◌≢◌, ◌<◌, ◌≤◌, ◌+◌, ℕ, true, IsTrue, OnOk, IsErrOf, Option, None, Some, length};
+ghost use Rattle.std.specs.Prelude.{◌≡◌, ◌≢◌, ◌≤◌, true, IsTrue, IsErr, OnOk, IsErrOf, Option, None, Some, length};
+ghost use Rattle.plain_types.specs.Schedule.{MustFail, MustWork};
 ghost use Rattle.std.specs.Option.{ForSome};
-ghost use Rattle.flash_trait.specs.Flash.{Program, Erase, IsPossible};
+ghost use Rattle.flash_trait.specs.Flash.{Program, Erase, IsPossible, AreBytes};
 ghost use Rattle.flash_trait.specs.FlashCalls.{FlashState, Completes, IsCut, IsFailed};
 
 use plain_types::list::Items;
@@ -47,7 +48,8 @@ pub trait Flash {
         ensures { result.now ≡ (state self.now).content };
 
     /// Replaces each byte from `at` on by its AND with the given one. A program has 1 to 8,192 bytes, inside the
-    /// flash. `Cut` comes exactly at the armed operation, where the flash doesn't fail at it.
+    /// flash. `Cut` comes exactly at the armed operation, where the flash doesn't fail at it. Where it is known
+    /// beforehand which operations fail and for how many there is room, no other fails.
     fn program(&mut self, at: u32, bytes: &[u8]) -> Result<(), FlashErr>
         requires on { IsTrue (state self.old).on }
         requires possible { IsPossible (Program at bytes.now) }
@@ -55,10 +57,11 @@ pub trait Flash {
         ensures ok { OnOk result (Completes (Program at bytes.now) (state self.old) (state self.new)) }
         ensures cut { IsErrOf result FlashErr.Cut → IsCut (Program at bytes.now) (state self.old) (state self.new) }
         ensures failed { IsErrOf result FlashErr.Failed → IsFailed (Program at bytes.now) (state self.old) (state self.new) }
-        ensures works { 0 < (state self.old).spare → result ≢ Err FlashErr.Failed };
+        ensures fails { MustFail (state self.old).schedule 1 → IsErrOf result FlashErr.Failed }
+        ensures works { MustWork (state self.old).schedule 1 → result ≢ Err FlashErr.Failed };
 
     /// Makes the 8,192 bytes of a sector 0xFF. `Cut` comes exactly at the armed operation, where the flash doesn't
-    /// fail at it.
+    /// fail at it. Where it is known beforehand which operations fail and for how many there is room, no other fails.
     fn erase(&mut self, sector: u32) -> Result<(), FlashErr>
         requires on { IsTrue (state self.old).on }
         requires possible { IsPossible (Erase sector) }
@@ -66,7 +69,8 @@ pub trait Flash {
         ensures ok { OnOk result (Completes (Erase sector) (state self.old) (state self.new)) }
         ensures cut { IsErrOf result FlashErr.Cut → IsCut (Erase sector) (state self.old) (state self.new) }
         ensures failed { IsErrOf result FlashErr.Failed → IsFailed (Erase sector) (state self.old) (state self.new) }
-        ensures works { 0 < (state self.old).spare → result ≢ Err FlashErr.Failed };
+        ensures fails { MustFail (state self.old).schedule 1 → IsErrOf result FlashErr.Failed }
+        ensures works { MustWork (state self.old).schedule 1 → result ≢ Err FlashErr.Failed };
 
     /// Arms a stop, or none. Operations are counted from 1 since this call.
     fn arm(&mut self, stop: Option<Stop>)
@@ -84,4 +88,7 @@ pub trait Flash {
 
     /// The size of the content.
     ghost sized: { (flash : Self) → length (state flash).content ≡ 262144 };
+
+    /// The content is bytes.
+    ghost bytes: { (flash : Self) → AreBytes (state flash).content };
 }

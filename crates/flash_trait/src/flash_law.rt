@@ -1,8 +1,8 @@
 //! What a caller can conclude of a flash from the clauses of [`Flash`] alone.
 
-ghost use Rattle.std.specs.Prelude.{◌≡◌, ◌⊎◌, ◌<◌, ◌≤◌, ℕ, List, IsTrue, length};
+ghost use Rattle.std.specs.Prelude.{◌≡◌, ◌⊎◌, ◌<◌, ◌≤◌, ◌++◌, ◌∷◌, [], ℕ, List, IsTrue, length};
 ghost use Rattle.flash_trait.specs.Flash.{Operation, Program, Erase, IsPossible, AreBytes, IsStopped, after, cut};
-ghost use Rattle.flash_trait.specs.FlashCalls.{AtEachMoment};
+ghost use Rattle.flash_trait.specs.FlashCalls.{FlashState, Completes, IsCut, IsFailed, AtEachMoment, Made};
 
 use crate::flash::{Flash, FlashErr};
 
@@ -35,4 +35,19 @@ pub fn masks()
     // Among them are the content after the whole operation and the one before it.
     ensures whole { (op : Operation) (old : List ℕ) → IsStopped op old (after op old) }
     ensures none { (op : Operation) (old : List ℕ) → IsStopped op old old }
+{}
+
+/// How the record of a flash that tells it grows. Users of `MadeFront` keep `Made` of the operations so far.
+pub fn operations()
+    ensures none { (s : FlashState) → Made [] s s }
+    ensures whole { (ops : List Operation) (op : Operation) (first old new : FlashState) → Made ops first old → Completes op old new → Made (ops ++ op ∷ []) first new }
+    ensures cut { (ops : List Operation) (op : Operation) (first old new : FlashState) → Made ops first old → IsCut op old new → Made (ops ++ op ∷ []) first new }
+
+    // A failed operation that changed nothing may be missing in the record.
+    ensures failed { (ops : List Operation) (op : Operation) (first old new : FlashState) → Made ops first old → IsFailed op old new
+        → Made (ops ++ op ∷ []) first new ⊎ Made ops first new }
+
+    // Arming and turning on leave the record.
+    ensures stays { (ops : List Operation) (first old new : FlashState) → Made ops first old → new.tells ≡ old.tells → new.log ≡ old.log → Made ops first new }
+    ensures join { (ops more : List Operation) (first middle last : FlashState) → Made ops first middle → Made more middle last → Made (ops ++ more) first last }
 {}

@@ -5,9 +5,9 @@ use Rattle.std.specs.Str.{bytes_eq}
 use Rattle.mf_types.specs.declared.files.NamedFile.{NamedFile}
 
 -- the bytes of the last file of this name
-abbrev pub file_of : List NamedFile → List ℕ → Option (List ℕ)
-file_of [] name = None
-file_of (f ∷ fs) name = option_or (file_of fs name) (if bytes_eq f.name name then Some f.bytes else None)
+abbrev pub bytes_under : List NamedFile → List ℕ → Option (List ℕ)
+bytes_under [] name = None
+bytes_under (f ∷ fs) name = option_or (bytes_under fs name) (if bytes_eq f.name name then Some f.bytes else None)
 
 -- all files stay
 abbrev pub FilesStay : (List ℕ → Option (List ℕ)) → (List ℕ → Option (List ℕ)) → Type 0

@@ -1,6 +1,7 @@
 -- What the calls of a link and of a hub do.
-use Rattle.std.specs.Prelude.{◌≡◌, not, ◌^◌, ℕ, ◌+◌, ◌<◌, ◌≤◌, ◌==◌, min, Bool, true, false, IsTrue, List, [], ◌∷◌, ◌++◌, length, take, drop, if◌then◌else◌, nat_le}
+use Rattle.std.specs.Prelude.{◌≡◌, not, ◌^◌, ℕ, ◌+◌, ◌<◌, ◌≤◌, ◌==◌, min, Bool, true, false, IsTrue, List, [], ◌∷◌, ◌++◌, length, take, drop, if◌then◌else◌, nat_le, Option, None}
 use Rattle.plain_types.specs.Counts.{Rose}
+use Rattle.plain_types.specs.Schedule.{Schedule, after_call}
 use Rattle.mf_types.specs.declared.link.Coming.{Coming}
 use Rattle.mf_types.specs.declared.link.Coming.TheVariants.{Piece, Silence}
 
@@ -11,10 +12,36 @@ pub record Sent : Type 0 where
   pub answers : ℕ
   pub silences : ℕ
 
+-- what a hub is: nothing yet, one that started a board at a port, or one that listens, asked for a port and given one.
+-- The given port is 0 unless listening began
+pub data Role : Type 0 where
+  Unused : Role
+  Starter : (port : ℕ) → Role
+  Listener : (asked given : ℕ) → Role
+
+abbrev pub is_listening : Role → Bool
+is_listening Unused = false
+is_listening (Starter port) = false
+is_listening (Listener asked given) = not (given == 0)
+
+-- what is known of a hub besides its link
+pub record HubState : Type 0 where
+  pub role : Role
+  -- how often a board couldn't be started; it never falls, and ends at 2 ^ 64 - 1
+  pub start_faults : ℕ
+  -- which of the calls that a hub adds to a link fail, where that is known beforehand
+  pub schedule : Option Schedule
+
+-- a link that is no hub
+abbrev pub no_hub : HubState
+no_hub = record { role = Unused; start_faults = 0; schedule = None }
+
 -- all that is known of a link
 pub record LinkState : Type 0 where
   -- both calls may be made
   pub ready : Bool
+  -- the connection is one of datagrams: each send is one, and what a receive gives is one
+  pub datagrams : Bool
   -- whether the sends and the list to come are told
   pub tells : Bool
   pub sends : List Sent
@@ -26,10 +53,10 @@ pub record LinkState : Type 0 where
   -- the answers of receive other than Failed, and the bytes that they gave
   pub answers : ℕ
   pub taken : ℕ
-  -- for how many further bytes it is promised that no send fails
-  pub spare : ℕ
-  -- it is promised that no receive fails
-  pub receives : Bool
+  -- which calls fail, and for how many bytes sent there is room, where that is known beforehand
+  pub schedule : Option Schedule
+  -- what is known of it as a hub
+  pub hub : HubState
 
 -- the bytes that were sent, joined
 abbrev pub sent_bytes : List Sent → List ℕ
@@ -42,36 +69,39 @@ with_send old bytes =
     if length bytes == 0 then old.sends
     else old.sends ++ (record { bytes = bytes; taken = old.taken; answers = old.answers; silences = old.silences }) ∷ []
 
--- what a send leaves: all but the sends, the faults and the room
+-- what a send leaves: all but the sends, the faults and the schedule
 pub record SendKeeps (old new : LinkState) : Type 0 where
   pub ready : new.ready ≡ old.ready
+  pub datagrams : new.datagrams ≡ old.datagrams
   pub telling : new.tells ≡ old.tells
   pub coming : IsTrue old.tells → new.coming ≡ old.coming
   pub silences : new.silences ≡ old.silences
   pub answers : new.answers ≡ old.answers
   pub taken : new.taken ≡ old.taken
-  pub receives : new.receives ≡ old.receives
+  pub hub : new.hub ≡ old.hub
 
 -- the bytes were sent
 pub record IsSent (bytes : List ℕ) (old new : LinkState) : Type 0 where
   pub sends : IsTrue old.tells → new.sends ≡ with_send old bytes
   pub faults : new.faults ≡ old.faults
-  pub spare : old.spare ≤ new.spare + length bytes
+  pub schedule : new.schedule ≡ after_call old.schedule (length bytes)
   pub others : SendKeeps old new
 
 -- a front of the bytes was sent, and not all of them
-pub record IsCutShort (bytes : List ℕ) (old new : LinkState) : Type 0 where
+pub record IsSentInPart (bytes : List ℕ) (old new : LinkState) : Type 0 where
   pub sends : IsTrue old.tells → (n : ℕ) × (n < length bytes) × (new.sends ≡ with_send old (take n bytes))
   pub faults : Rose old.faults new.faults
+  pub schedule : new.schedule ≡ after_call old.schedule 0
   pub others : SendKeeps old new
 
 -- what a receive leaves: all but the counts and the list to come
 pub record ReceiveKeeps (old new : LinkState) : Type 0 where
   pub ready : new.ready ≡ old.ready
+  pub datagrams : new.datagrams ≡ old.datagrams
   pub telling : new.tells ≡ old.tells
   pub sends : IsTrue old.tells → new.sends ≡ old.sends
-  pub spare : new.spare ≡ old.spare
-  pub receives : new.receives ≡ old.receives
+  pub schedule : new.schedule ≡ after_call old.schedule 0
+  pub hub : new.hub ≡ old.hub
 
 -- the first piece, as much of it as fits, and what is left to come
 pub record TakesPiece (n : ℕ) (into : List ℕ) (old new : List Coming) : Type 0 where
@@ -123,27 +153,17 @@ HasRoom link = (link.answers < 2 ^ 60) × (link.taken < 2 ^ 60)
 
 -- ---- hubs
 
--- what a hub is: nothing yet, one that started a board at a port, or one that listens, asked for a port and given one.
--- The given port is 0 unless listening began
-pub data Role : Type 0 where
-  Unused : Role
-  Starter : (port : ℕ) → Role
-  Listener : (asked given : ℕ) → Role
+-- the hub after a call that left it with this role
+abbrev pub with_role : HubState → Role → HubState
+with_role old role = record { role = role; start_faults = old.start_faults; schedule = after_call old.schedule 0 }
 
-abbrev pub is_listening : Role → Bool
-is_listening Unused = false
-is_listening (Starter port) = false
-is_listening (Listener asked given) = not (given == 0)
+-- no board was started
+pub record IsNotStarted (old new : HubState) : Type 0 where
+  pub role : new.role ≡ old.role
+  pub start_faults : Rose old.start_faults new.start_faults
+  pub schedule : new.schedule ≡ after_call old.schedule 0
 
--- what is known of a hub besides its link
-pub record HubState : Type 0 where
-  pub role : Role
-  -- how often a board couldn't be started; it never falls, and ends at 2 ^ 64 - 1
-  pub start_faults : ℕ
-  -- it is promised that no board fails to start and no connection fails to begin
-  pub connects : Bool
-
--- a call that leaves the link as it was, but for its faults and whether it is ready
+-- a call of a hub leaves the link as it was, but for its faults and its connection
 pub record LinkStays (old new : LinkState) : Type 0 where
   pub telling : new.tells ≡ old.tells
   pub sends : IsTrue old.tells → new.sends ≡ old.sends
@@ -151,23 +171,27 @@ pub record LinkStays (old new : LinkState) : Type 0 where
   pub silences : new.silences ≡ old.silences
   pub answers : new.answers ≡ old.answers
   pub taken : new.taken ≡ old.taken
-  pub spare : new.spare ≡ old.spare
-  pub receives : new.receives ≡ old.receives
+  pub schedule : new.schedule ≡ old.schedule
 
--- a connection began
-pub record Connects (old new : LinkState) : Type 0 where
+-- a connection began: of datagrams, or of bytes
+pub record Connects (datagrams : Bool) (old new : LinkState) : Type 0 where
   pub ready : new.ready ≡ true
+  pub kind : new.datagrams ≡ datagrams
   pub faults : new.faults ≡ old.faults
+  pub others : LinkStays old new
+
+-- the connection stays as it was
+pub record SameConnection (old new : LinkState) : Type 0 where
+  pub ready : new.ready ≡ old.ready
+  pub datagrams : new.datagrams ≡ old.datagrams
   pub others : LinkStays old new
 
 -- the link and its count of faults stay
 pub record KeepsLink (old new : LinkState) : Type 0 where
-  pub ready : new.ready ≡ old.ready
   pub faults : new.faults ≡ old.faults
-  pub others : LinkStays old new
+  pub connection : SameConnection old new
 
 -- the call failed at the link
 pub record FailsAtLink (old new : LinkState) : Type 0 where
-  pub ready : new.ready ≡ old.ready
   pub faults : Rose old.faults new.faults
-  pub others : LinkStays old new
+  pub connection : SameConnection old new

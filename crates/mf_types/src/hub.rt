@@ -1,52 +1,84 @@
 //! A link that begins its own connections.
 
-ghost use Rattle.std.specs.Prelude.{◌≡◌, ◌<◌, IsTrue, IfOk, OnOk, OnErr, IsOk};
-ghost use Rattle.plain_types.specs.Counts.{Rose};
-ghost use Rattle.mf_types.specs.LinkCalls.{HubState, Unused, Starter, Listener, is_listening, Connects, KeepsLink, FailsAtLink};
+ghost use Rattle.std.specs.Prelude.{◌≡◌, ◌<◌, true, false, IsTrue, IfOk, OnOk, OnErr, IsOk, IsErr};
+ghost use Rattle.plain_types.specs.Schedule.{MustFail, MustWork};
+ghost use Rattle.mf_types.specs.LinkCalls.{Unused, Starter, Listener, is_listening, with_role, IsNotStarted, Connects, KeepsLink, FailsAtLink};
 
-use plain_types::fault::Failed;
 use crate::link::Link;
+use plain_types::fault::Failed;
 
 /// A hub is itself the link of its newest connection. Its sends, its list to come and its counts go on over its
-/// connections. It is ready from the first `dial` or `accept` that answers `Ok`.
+/// connections. It is ready from the first `dial`, `accept`, `post` or `post_listen` that answers `Ok`. Where it is
+/// known beforehand which of these calls fail, no other does.
 pub trait Hub: Link {
-    /// What is known of it besides its link.
-    ghost hub: { Self → HubState };
-
     /// Starts a board and gives its port. `Failed` comes only where the count of start faults rose.
     fn start_board(&mut self) -> Result<u16, Failed>
-        requires { (hub self.old).role ≡ Unused }
-        ensures ok { IfOk result (λ port. hub self.new ≡ record (hub self.old) { role = Starter port }) }
-        ensures role { OnErr result ((hub self.new).role ≡ (hub self.old).role) }
-        ensures cause { OnErr result (Rose (hub self.old).start_faults (hub self.new).start_faults) }
-        ensures promise { (hub self.new).connects ≡ (hub self.old).connects }
+        requires { (Self.state self.old).hub.role ≡ Unused }
+        ensures ok { IfOk result (λ port. (Self.state self.new).hub ≡ with_role (Self.state self.old).hub (Starter port)) }
+        ensures failed { OnErr result (IsNotStarted (Self.state self.old).hub (Self.state self.new).hub) }
         ensures link { KeepsLink (Self.state self.old) (Self.state self.new) }
-        ensures works { IsTrue (hub self.old).connects → IsOk result };
+        ensures fails { MustFail (Self.state self.old).hub.schedule 0 → IsErr result }
+        ensures works { MustWork (Self.state self.old).hub.schedule 0 → IsOk result };
 
-    /// Begins a connection to the board that was started. `Failed` comes only where the count of faults rose.
+    /// Starts a board that talks in datagrams and gives its port. `Failed` comes only where the count of start faults
+    /// rose.
+    fn start_post_board(&mut self) -> Result<u16, Failed>
+        requires { (Self.state self.old).hub.role ≡ Unused }
+        ensures ok { IfOk result (λ port. (Self.state self.new).hub ≡ with_role (Self.state self.old).hub (Starter port)) }
+        ensures failed { OnErr result (IsNotStarted (Self.state self.old).hub (Self.state self.new).hub) }
+        ensures link { KeepsLink (Self.state self.old) (Self.state self.new) }
+        ensures fails { MustFail (Self.state self.old).hub.schedule 0 → IsErr result }
+        ensures works { MustWork (Self.state self.old).hub.schedule 0 → IsOk result };
+
+    /// Begins a connection of bytes to the board that was started. `Failed` comes only where the count of faults rose.
     fn dial(&mut self, port: u16) -> Result<(), Failed>
-        requires { (hub self.old).role ≡ Starter port }
-        ensures ok { OnOk result (Connects (Self.state self.old) (Self.state self.new)) }
+        requires { (Self.state self.old).hub.role ≡ Starter port }
+        ensures ok { OnOk result (Connects false (Self.state self.old) (Self.state self.new)) }
         ensures failed { OnErr result (FailsAtLink (Self.state self.old) (Self.state self.new)) }
-        ensures hub { hub self.new ≡ hub self.old }
-        ensures works { IsTrue (hub self.old).connects → IsOk result };
+        ensures hub { (Self.state self.new).hub ≡ with_role (Self.state self.old).hub (Self.state self.old).hub.role }
+        ensures fails { MustFail (Self.state self.old).hub.schedule 0 → IsErr result }
+        ensures works { MustWork (Self.state self.old).hub.schedule 0 → IsOk result };
+
+    /// Begins a connection of datagrams to the board that was started. `Failed` comes only where the count of faults
+    /// rose.
+    fn post(&mut self, port: u16) -> Result<(), Failed>
+        requires { (Self.state self.old).hub.role ≡ Starter port }
+        ensures ok { OnOk result (Connects true (Self.state self.old) (Self.state self.new)) }
+        ensures failed { OnErr result (FailsAtLink (Self.state self.old) (Self.state self.new)) }
+        ensures hub { (Self.state self.new).hub ≡ with_role (Self.state self.old).hub (Self.state self.old).hub.role }
+        ensures fails { MustFail (Self.state self.old).hub.schedule 0 → IsErr result }
+        ensures works { MustWork (Self.state self.old).hub.schedule 0 → IsOk result };
 
     /// Listens at a port, or at one that it chooses where 0 is asked for, and gives the port. `Failed` comes only where
     /// the count of faults rose.
     fn listen(&mut self, port: u16) -> Result<u16, Failed>
-        requires { (hub self.old).role ≡ Unused }
-        ensures ok { IfOk result (λ given. hub self.new ≡ record (hub self.old) { role = Listener port given }) }
+        requires { (Self.state self.old).hub.role ≡ Unused }
+        ensures ok { IfOk result (λ given. (Self.state self.new).hub ≡ with_role (Self.state self.old).hub (Listener port given)) }
         ensures given { IfOk result (λ given. 0 < given) }
-        ensures role { OnErr result (hub self.new ≡ record (hub self.old) { role = Listener port 0 }) }
+        ensures role { OnErr result ((Self.state self.new).hub ≡ with_role (Self.state self.old).hub (Listener port 0)) }
         ensures listening { OnOk result (KeepsLink (Self.state self.old) (Self.state self.new)) }
         ensures failed { OnErr result (FailsAtLink (Self.state self.old) (Self.state self.new)) }
-        ensures works { IsTrue (hub self.old).connects → IsOk result };
+        ensures fails { MustFail (Self.state self.old).hub.schedule 0 → IsErr result }
+        ensures works { MustWork (Self.state self.old).hub.schedule 0 → IsOk result };
 
-    /// Accepts the next connection. `Failed` comes only where the count of faults rose.
-    fn accept(&mut self) -> Result<(), Failed>
-        requires { IsTrue (is_listening (hub self.old).role) }
-        ensures ok { OnOk result (Connects (Self.state self.old) (Self.state self.new)) }
+    /// Listens at a port as `listen` does, begins a connection of datagrams there, and gives the port. `Failed` comes
+    /// only where the count of faults rose.
+    fn post_listen(&mut self, port: u16) -> Result<u16, Failed>
+        requires { (Self.state self.old).hub.role ≡ Unused }
+        ensures ok { IfOk result (λ given. (Self.state self.new).hub ≡ with_role (Self.state self.old).hub (Listener port given)) }
+        ensures given { IfOk result (λ given. 0 < given) }
+        ensures role { OnErr result ((Self.state self.new).hub ≡ with_role (Self.state self.old).hub (Listener port 0)) }
+        ensures listening { OnOk result (Connects true (Self.state self.old) (Self.state self.new)) }
         ensures failed { OnErr result (FailsAtLink (Self.state self.old) (Self.state self.new)) }
-        ensures hub { hub self.new ≡ hub self.old }
-        ensures works { IsTrue (hub self.old).connects → IsOk result };
+        ensures fails { MustFail (Self.state self.old).hub.schedule 0 → IsErr result }
+        ensures works { MustWork (Self.state self.old).hub.schedule 0 → IsOk result };
+
+    /// Accepts the next connection, one of bytes. `Failed` comes only where the count of faults rose.
+    fn accept(&mut self) -> Result<(), Failed>
+        requires { IsTrue (is_listening (Self.state self.old).hub.role) }
+        ensures ok { OnOk result (Connects false (Self.state self.old) (Self.state self.new)) }
+        ensures failed { OnErr result (FailsAtLink (Self.state self.old) (Self.state self.new)) }
+        ensures hub { (Self.state self.new).hub ≡ with_role (Self.state self.old).hub (Self.state self.old).hub.role }
+        ensures fails { MustFail (Self.state self.old).hub.schedule 0 → IsErr result }
+        ensures works { MustWork (Self.state self.old).hub.schedule 0 → IsOk result };
 }

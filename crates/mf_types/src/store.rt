@@ -1,9 +1,9 @@
 //! The files that a call reads and writes.
 
-ghost use Rattle.std.specs.Prelude.{◌≡◌, ◌≢◌, ◌≤◌, ◌+◌, ℕ, Bool, List, Option, Some, IsTrue, IsNone, IfOk, OnOk, IsErrOf};
-ghost use Rattle.plain_types.specs.Counts.{Rose};
+ghost use Rattle.std.specs.Prelude.{◌≡◌, ◌≢◌, Some, IsTrue, IsNone, IsErr, IfOk, OnOk, IsErrOf};
+ghost use Rattle.plain_types.specs.Schedule.{MustFail, MustWork};
 ghost use Rattle.mf_types.specs.Files.{FilesStay, OthersStay};
-ghost use Rattle.mf_types.specs.declared.store.FailedCall.{FailedCall};
+ghost use Rattle.mf_types.specs.StoreCalls.{StoreState, IsFault, IsNoFault};
 
 use plain_types::fault::NoMemory;
 use plain_types::list::Text;
@@ -39,44 +39,28 @@ pub enum FailedCall {
 
 /// Files by name, outside of the program. Each call returns; that a real one does isn't proved.
 pub trait Store {
-    /// Whether `held` is what the store holds. Where it isn't told, `held` says nothing.
-    ghost tells: { Self → Bool };
+    /// All that is known of it.
+    ghost state: { Self → StoreState };
 
-    /// The bytes of the file of a name.
-    ghost held: { Self → List ℕ → Option (List ℕ) };
-
-    /// How often the store failed. It never falls.
-    ghost faults: { Self → ℕ };
-
-    /// The last call that answered `Failed`.
-    ghost failed: { Self → Option FailedCall };
-
-    /// Whether it is promised that no call fails, but for a read of a file that isn't there.
-    ghost is_reliable: { Self → Bool };
-
-    /// Reads a file. `Failed` comes only where the count of faults rose, as for a file that isn't there.
+    /// Reads a file. `Failed` comes only where the count of faults rose, as for a file that isn't there. Where it is
+    /// known beforehand which calls fail, no other does, but for a read of such a file.
     fn read(&mut self, alloc: Global, name: &str) -> Result<Vec<u8>, StoreErr>
-        ensures bytes { IfOk result (λ bytes. IsTrue (tells self.old) → held self.old name.now ≡ Some bytes.items) }
-        ensures cause { IsErrOf result StoreErr.Failed → Rose (faults self.old) (faults self.new) }
-        ensures failed_call { IsErrOf result StoreErr.Failed → failed self.new ≡ Some (FailedCall.Read name.now) }
-        ensures not_failed { result ≢ Err StoreErr.Failed → failed self.new ≡ failed self.old }
+        ensures bytes { IfOk result (λ bytes. IsTrue (state self.old).tells → (state self.old).held name.now ≡ Some bytes.items) }
+        ensures fault { IsErrOf result StoreErr.Failed → IsFault (FailedCall.Read name.now) (state self.old) (state self.new) }
+        ensures no_fault { result ≢ Err StoreErr.Failed → IsNoFault (state self.old) (state self.new) }
+        ensures files_stay { FilesStay (state self.old).held (state self.new).held }
 
-        ensures files_stay { FilesStay (held self.old) (held self.new) }
-        ensures telling { tells self.new ≡ tells self.old }
-        ensures count { faults self.old ≤ faults self.new }
-        ensures reliable { is_reliable self.new ≡ is_reliable self.old }
-        ensures absent { IsTrue (is_reliable self.old) → IsErrOf result StoreErr.Failed → IsNone (held self.old name.now) };
+        ensures fails { MustFail (state self.old).schedule 0 → IsErr result }
+        ensures works { MustWork (state self.old).schedule 0 → IsErrOf result StoreErr.Failed → IsNone ((state self.old).held name.now) };
 
-    /// Makes a file hold these bytes. After an error that file is open: it may hold anything.
+    /// Makes a file hold these bytes. After an error that file is open: it may hold anything. Where it is known
+    /// beforehand which calls fail, no other does.
     fn put(&mut self, alloc: Global, name: &str, bytes: &[u8]) -> Result<(), StoreErr>
-        ensures bytes { OnOk result (IsTrue (tells self.old) → held self.new name.now ≡ Some bytes.now) }
-        ensures cause { IsErrOf result StoreErr.Failed → Rose (faults self.old) (faults self.new) }
-        ensures failed_call { IsErrOf result StoreErr.Failed → failed self.new ≡ Some (FailedCall.Put name.now) }
-        ensures not_failed { result ≢ Err StoreErr.Failed → failed self.new ≡ failed self.old }
+        ensures bytes { OnOk result (IsTrue (state self.old).tells → (state self.new).held name.now ≡ Some bytes.now) }
+        ensures fault { IsErrOf result StoreErr.Failed → IsFault (FailedCall.Put name.now) (state self.old) (state self.new) }
+        ensures no_fault { result ≢ Err StoreErr.Failed → IsNoFault (state self.old) (state self.new) }
+        ensures others_stay { OthersStay (state self.old).held (state self.new).held name.now }
 
-        ensures others_stay { OthersStay (held self.old) (held self.new) name.now }
-        ensures telling { tells self.new ≡ tells self.old }
-        ensures count { faults self.old ≤ faults self.new }
-        ensures reliable { is_reliable self.new ≡ is_reliable self.old }
-        ensures works { IsTrue (is_reliable self.old) → result ≢ Err StoreErr.Failed };
+        ensures fails { MustFail (state self.old).schedule 0 → IsErr result }
+        ensures works { MustWork (state self.old).schedule 0 → result ≢ Err StoreErr.Failed };
 }

@@ -1,6 +1,6 @@
 //! Files of the system.
 
-ghost use Rattle.std.specs.Prelude.{◌≡◌, ◌≢◌, ◌≤◌, Some, None, false};
+ghost use Rattle.std.specs.Prelude.{◌≡◌, ◌≢◌, Some, None, false};
 ghost use Rattle.plain_types.specs.Counts.{Rose};
 
 use plain_types::list::Text;
@@ -31,10 +31,9 @@ impl<'r, R: Files + AllocGlobal> FileStore<'r, R> {
 
     /// Counts a failure, and keeps the call; or no memory, where that was the failure.
     fn fail(&mut self, error: io::Error, call: FailedCall) -> StoreErr
-        ensures counted { result ≡ StoreErr.Failed → Rose self.old.faults self.new.faults }
-        ensures told { result ≡ StoreErr.Failed → self.new.failed ≡ Some call }
-        ensures no_memory { result ≢ StoreErr.Failed → self.new.failed ≡ self.old.failed }
-        ensures count { self.old.faults ≤ self.new.faults }
+        ensures faults { result ≡ StoreErr.Failed → Rose self.old.faults self.new.faults }
+        ensures failed { result ≡ StoreErr.Failed → self.new.failed ≡ Some call }
+        ensures no_memory { result ≢ StoreErr.Failed → (self.new.faults ≡ self.old.faults) × (self.new.failed ≡ self.old.failed) }
     {
         if error.kind() == io::ErrorKind::OutOfMemory {
             return StoreErr::NoMemory;
@@ -46,15 +45,13 @@ impl<'r, R: Files + AllocGlobal> FileStore<'r, R> {
 }
 
 impl<R: Files + AllocGlobal> Store for FileStore<'_, R> {
-    ghost tells = { λ _. false };
-
-    ghost held = { λ _ _. None };
-
-    ghost faults = { λ s. s.faults };
-
-    ghost failed = { λ s. s.failed };
-
-    ghost is_reliable = { λ _. false };
+    ghost state = { λ s. record {
+      tells = false;
+      held = λ _. None;
+      faults = s.faults;
+      failed = s.failed;
+      schedule = None;
+    } };
 
     fn read(&mut self, alloc: Global, name: &str) -> Result<Vec<u8>, StoreErr> {
         let call = FailedCall::Read(Text::copied(alloc, name)?);

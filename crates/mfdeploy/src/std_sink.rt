@@ -1,6 +1,6 @@
 //! Standard output.
 
-ghost use Rattle.std.specs.Prelude.{◌≡◌, [], false};
+ghost use Rattle.std.specs.Prelude.{◌≡◌, [], None, false};
 
 use plain_types::fault::Failed;
 use mf_types::sink::Sink;
@@ -22,15 +22,7 @@ impl<'r, R: Print> StdSink<'r, R> {
 }
 
 impl<R: Print> Sink for StdSink<'_, R> {
-    ghost tells = { λ _. false };
-
-    ghost written = { λ _. [] };
-
-    ghost faults = { λ s. s.faults };
-
-    ghost is_reliable = { λ _. false };
-
-    ghost spare = { λ _. 0 };
+    ghost state = { λ s. record { tells = false; written = []; faults = s.faults; schedule = None } };
 
     fn write(&mut self, piece: &[u8]) -> Result<(), Failed> {
         match self.rt.write_all(piece) {

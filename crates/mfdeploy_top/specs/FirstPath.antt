@@ -1,9 +1,9 @@
 -- What the job `run1 FILE STEPS` comes to.
-use Rattle.std.specs.Prelude.{◌≡◌, ◌⊎◌, ℕ, ℤ, Bool, IsTrue, nat_le, if◌then◌else◌, List, Option, Some, None, Result, Ok, Err}
+use Rattle.std.specs.Prelude.{◌≡◌, ◌⊎◌, ℕ, ℤ, IsTrue, nat_le, if◌then◌else◌, List, Option, Some, None, Result, Ok, Err}
 use Rattle.std.specs.Option.{ok_or}
 use Rattle.plain_types.specs.Counts.{Rose}
 use Rattle.plain_types.specs.declared.fault.Fault.{Fault}
-use Rattle.mf_types.specs.declared.store.FailedCall.{FailedCall}
+use Rattle.mf_types.specs.StoreCalls.{StoreState}
 use Rattle.mf_types.specs.declared.store.FailedCall.TheVariants.{Read}
 use Rattle.file_tables.specs.File.{FilePart, file_of}
 use Rattle.tiny_interp.specs.Postfix.{first_value, first_count}
@@ -49,24 +49,24 @@ pub record IsNoJob (job : Option Job) (outcome : Outcome) : Type 0 where
   pub told : outcome ≡ Usage
 
 -- the file couldn't be read: the store failed in this call, and its last failure is the read of this file
-pub record IsUnread (job : Option Job) (faults_before faults : ℕ) (failed : Option FailedCall) (outcome : Outcome) : Type 0 where
+pub record IsUnread (job : Option Job) (old new : StoreState) (outcome : Outcome) : Type 0 where
   pub file : List ℕ
   pub steps : ℕ
   pub asked : job ≡ Some (Run1 file steps)
-  pub cause : Rose faults_before faults
-  pub call : failed ≡ Some (Read file)
+  pub cause : Rose old.faults new.faults
+  pub call : new.failed ≡ Some (Read file)
   pub told : outcome ≡ ReadFault file
 
 -- the file was read, where the store tells it has these bytes, and this is what they come to
-pub record IsAnswered (job : Option Job) (tells : Bool) (held : List ℕ → Option (List ℕ)) (outcome : Outcome) : Type 0 where
+pub record IsAnswered (job : Option Job) (old : StoreState) (outcome : Outcome) : Type 0 where
   pub file : List ℕ
   pub steps : ℕ
   pub asked : job ≡ Some (Run1 file steps)
   pub bytes : List ℕ
-  pub read : IsTrue tells → held file ≡ Some bytes
+  pub read : IsTrue old.tells → old.held file ≡ Some bytes
   pub told : outcome ≡ answer_of bytes file steps
 
 -- what a job may come to, over a store; want of memory is free
-abbrev pub ComesTo : Option Job → Bool → (List ℕ → Option (List ℕ)) → ℕ → ℕ → Option FailedCall → Outcome → Type 0
-ComesTo job tells held faults_before faults failed outcome =
-    IsNoJob job outcome ⊎ IsUnread job faults_before faults failed outcome ⊎ IsAnswered job tells held outcome ⊎ (outcome ≡ NoMemory)
+abbrev pub ComesTo : Option Job → StoreState → StoreState → Outcome → Type 0
+ComesTo job old new outcome =
+    IsNoJob job outcome ⊎ IsUnread job old new outcome ⊎ IsAnswered job old outcome ⊎ (outcome ≡ NoMemory)

@@ -30,9 +30,8 @@ fn answer(bytes: &[u8], file: Text, steps: u64) -> Outcome
 
 /// Reads a file, and tells what it comes to.
 fn run_file<S: Store>(alloc: Global, file: Text, steps: u64, store: &mut S) -> Outcome
-    ensures comes { ComesTo (Some (Job.Run1 file steps)) (S.tells store.old) (S.held store.old)
-        (S.faults store.old) (S.faults store.new) (S.failed store.new) result }
-    ensures files_stay { FilesStay (S.held store.old) (S.held store.new) }
+    ensures comes { ComesTo (Some (Job.Run1 file steps)) (S.state store.old) (S.state store.new) result }
+    ensures files_stay { FilesStay (S.state store.old).held (S.state store.new).held }
 {
     match store.read(alloc, file.as_str()) {
         Ok(bytes) => answer(bytes.as_slice(), file, steps),
@@ -43,9 +42,8 @@ fn run_file<S: Store>(alloc: Global, file: Text, steps: u64, store: &mut S) -> O
 
 /// What the words come to.
 pub fn outcome_of<S: Store>(alloc: Global, words: &[String], store: &mut S) -> Outcome
-    ensures comes { ComesTo (job_of (map string_bytes words.now)) (S.tells store.old) (S.held store.old)
-        (S.faults store.old) (S.faults store.new) (S.failed store.new) result }
-    ensures files_stay { FilesStay (S.held store.old) (S.held store.new) }
+    ensures comes { ComesTo (job_of (map string_bytes words.now)) (S.state store.old) (S.state store.new) result }
+    ensures files_stay { FilesStay (S.state store.old).held (S.state store.new).held }
 {
     match job(alloc, words) {
         Ok(Job::Run1 { file, steps }) => run_file(alloc, file, steps, store),

@@ -12,8 +12,6 @@ ghost use Rattle.mfdeploy_top.specs.Writing.{EndsWith};
 mod first_path;
 mod form;
 mod tell;
-#[cfg(test)]
-mod tests;
 mod writing;
 
 use first_path::outcome_of;
@@ -35,12 +33,10 @@ pub fn mfdeploy<S: Store, K: Sink>(
 ) -> u8
     // There is an outcome that the job comes to, and the call ends with its status and its text, or with a failing sink.
     ensures ends { (outcome : Outcome)
-        × ComesTo (job_of (map string_bytes words.now)) (S.tells store.old) (S.held store.old)
-        (S.faults store.old) (S.faults store.new) (S.failed store.new) outcome
-        × EndsWith outcome result (K.tells sink.old) (K.written sink.old) (K.written sink.new)
-        (K.faults sink.old) (K.faults sink.new) }
+        × ComesTo (job_of (map string_bytes words.now)) (S.state store.old) (S.state store.new) outcome
+        × EndsWith outcome result (K.state sink.old) (K.state sink.new) }
 
-    ensures files_stay { FilesStay (S.held store.old) (S.held store.new) }
+    ensures files_stay { FilesStay (S.state store.old).held (S.state store.new).held }
 {
     let outcome = outcome_of(alloc, words, store);
     tell(alloc, &outcome, sink)

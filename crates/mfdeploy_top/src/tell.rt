@@ -14,7 +14,7 @@ const WRITE_FAULT: u8 = 7;
 
 /// Writes a text, and gives its status, or 7 where the sink failed.
 fn written<K: Sink>(sink: &mut K, text: &[u8], status: u8) -> u8
-    ensures { Ends status text.now result (K.tells sink.old) (K.written sink.old) (K.written sink.new) (K.faults sink.old) (K.faults sink.new) }
+    ensures { Ends status text.now result (K.state sink.old) (K.state sink.new) }
 {
     match write_text(sink, text) {
         Ok(()) => status,
@@ -25,8 +25,8 @@ fn written<K: Sink>(sink: &mut K, text: &[u8], status: u8) -> u8
 /// Writes the text of an outcome, and gives its status, or 7 where the sink failed. Where there is no memory for the
 /// text, that is what is told.
 pub fn tell<K: Sink>(alloc: Global, outcome: &Outcome, sink: &mut K) -> u8
-    ensures { EndsWith outcome.now result (K.tells sink.old) (K.written sink.old) (K.written sink.new) (K.faults sink.old) (K.faults sink.new)
-        ⊎ EndsWith Outcome.NoMemory result (K.tells sink.old) (K.written sink.old) (K.written sink.new) (K.faults sink.old) (K.faults sink.new) }
+    ensures { EndsWith outcome.now result (K.state sink.old) (K.state sink.new)
+        ⊎ EndsWith Outcome.NoMemory result (K.state sink.old) (K.state sink.new) }
 {
     match text(alloc, outcome) {
         Ok(text) => {

@@ -1,4 +1,5 @@
 pub mod HubStates
 pub mod LinkStates
 pub mod Queued
+pub mod Schedules
 pub mod SendLog

@@ -1,6 +1,7 @@
--- What is known of a link and of a hub in memory.
-use Rattle.std.specs.Prelude.{◌-◌, ◌==◌, true, length, vec_len, if◌then◌else◌}
-use Rattle.mf_types.specs.LinkCalls.{LinkState}
+-- What is known of a link in memory.
+use Rattle.std.specs.Prelude.{true, false, Some}
+use Rattle.mf_types.specs.LinkCalls.{LinkState, no_hub}
+use Rattle.outside_in_memory.specs.Schedules.{schedule_of}
 use Rattle.outside_in_memory.specs.SendLog.{sends_of}
 use Rattle.outside_in_memory.specs.declared.memory_link.MemoryLink.{MemoryLink}
 
@@ -8,6 +9,7 @@ abbrev pub link_of : MemoryLink → LinkState
 link_of l =
     record {
       ready = true;
+      datagrams = false;
       tells = true;
       sends = sends_of l.log.entries.items l.log.bytes.items;
       coming = l.coming;
@@ -15,6 +17,6 @@ link_of l =
       silences = l.silences;
       answers = l.answers;
       taken = l.taken;
-      spare = if length l.fails.items == 0 then l.log.room - vec_len l.log.bytes else 0;
-      receives = length l.fails.items == 0;
+      schedule = Some (schedule_of l.calls l.log.spare);
+      hub = no_hub;
     }

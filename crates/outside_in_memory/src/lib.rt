@@ -8,3 +8,8 @@ pub mod memory_sink;
 pub mod memory_store;
 pub mod queue;
 pub mod send_log;
+
+pub use memory_hub::MemoryHub;
+pub use memory_link::MemoryLink;
+pub use memory_sink::MemorySink;
+pub use memory_store::MemoryStore;

@@ -1,15 +1,15 @@
 //! A link in memory, for tests.
 
-ghost use Rattle.std.specs.Prelude.{◌≡◌, ◌≤◌, ◌==◌, [], IfOk, true, length, if◌then◌else◌};
+ghost use Rattle.std.specs.Prelude.{◌≡◌, ◌≤◌, [], Some, IfOk, true, false};
 ghost use Rattle.std.specs.List.{list_all};
-ghost use Rattle.mf_types.specs.LinkCalls.{LinkState, sent_bytes};
+ghost use Rattle.mf_types.specs.LinkCalls.{LinkState, no_hub, sent_bytes};
 ghost use Rattle.outside_in_memory.specs.Queued.{has_bytes};
 
-use crate::calls::is_due;
-use plain_types::fault::{Failed, NoMemory};
-use mf_types::link::{Coming, Got, Link};
+use crate::calls::Calls;
 use crate::queue::Queue;
 use crate::send_log::SendLog;
+use mf_types::link::{Coming, Got, Link};
+use plain_types::fault::{Failed, NoMemory};
 use std::alloc::Global;
 use std::collections::VecDeque;
 
@@ -18,8 +18,7 @@ use std::collections::VecDeque;
 pub struct MemoryLink {
     coming: Queue,
     log: SendLog,
-    fails: Vec<u32>,
-    calls: u64,
+    calls: Calls,
     faults: u64,
     silences: u64,
     answers: u64,
@@ -39,6 +38,7 @@ impl MemoryLink {
         requires { list_all has_bytes coming.items ≡ true }
         ensures { IfOk result (λ link. ⟦<MemoryLink as Link>⟧.state link ≡ record {
           ready = true;
+          datagrams = false;
           tells = true;
           sends = [];
           coming = coming.items;
@@ -46,16 +46,15 @@ impl MemoryLink {
           silences = 0;
           answers = 0;
           taken = 0;
-          spare = if length fails.items == 0 then room else 0;
-          receives = length fails.items == 0;
+          schedule = Some (record { fails = fails.items; made = 0; room = room });
+          hub = no_hub;
         }) }
     {
         let log = SendLog::new(alloc, room)?;
         Ok(MemoryLink {
             coming: Queue::new(VecDeque::from_vec(coming)),
             log,
-            fails,
-            calls: 0,
+            calls: Calls::new(fails),
             faults: 0,
             silences: 0,
             answers: 0,
@@ -77,8 +76,7 @@ impl Link for MemoryLink {
     ghost state = { λ l. link_of l };
 
     fn send(&mut self, bytes: &[u8]) -> Result<(), Failed> {
-        self.calls = self.calls.saturating_add(1);
-        if is_due(&self.fails, self.calls) || bytes.len() > self.log.spare() {
+        if self.calls.count(self.log.spare, bytes.len()) {
             self.faults = self.faults.saturating_add(1);
             return Err(Failed);
         }
@@ -88,8 +86,7 @@ impl Link for MemoryLink {
     }
 
     fn receive(&mut self, into: &mut [u8]) -> Result<Got, Failed> {
-        self.calls = self.calls.saturating_add(1);
-        if is_due(&self.fails, self.calls) {
+        if self.calls.count(self.log.spare, 0) {
             self.faults = self.faults.saturating_add(1);
             return Err(Failed);
         }
@@ -100,70 +97,5 @@ impl Link for MemoryLink {
             Got::Silent => self.silences += 1,
         }
         Ok(got)
-    }
-}
-
-#[cfg(test)]
-mod tests {
-    use super::*;
-    use mf_types::hub::Hub;
-    use plain_types::list::Items;
-    use crate::memory_hub::MemoryHub;
-
-    fn long_piece(alloc: Global) -> Result<Coming, NoMemory>
-        ensures { IfOk result (λ item. has_bytes item ≡ true) }
-    {
-        let bytes = vec![in alloc; 7; 2049]?;
-        Ok(Coming::Piece(Items::from_vec(bytes)))
-    }
-
-    /// A piece of 2,049 bytes, a silence, and then nothing.
-    fn script(alloc: Global) -> Result<Vec<Coming>, NoMemory>
-        ensures { IfOk result (λ items. list_all has_bytes items.items ≡ true) }
-    {
-        let mut items = Vec::new(alloc);
-        items.push(long_piece(alloc)?)?;
-        items.push(Coming::Silence)?;
-        Ok(items)
-    }
-
-    #[test]
-    fn pieces_come_as_they_fit(rt: HostRuntime) -> Result<(), NoMemory> {
-        let coming = script(rt.alloc())?;
-        let mut link = MemoryLink::new(rt.alloc(), coming, Vec::new(rt.alloc()), 9)?;
-        let mut into = [0; 2048];
-        assert!(rt; link.receive(&mut into) == Ok(Got::Bytes(2048)));
-        assert!(rt; into[2047] == 7);
-        assert!(rt; link.receive(&mut into) == Ok(Got::Bytes(1)));
-        assert!(rt; link.receive(&mut into) == Ok(Got::Silent));
-        assert!(rt; link.receive(&mut into) == Ok(Got::Silent));
-        Ok(())
-    }
-
-    /// The second call is due to fail, and the fourth is past the room.
-    #[test]
-    fn sends_are_kept_in_order(rt: HostRuntime) -> Result<(), NoMemory> {
-        let fails = vec![in rt.alloc(); 2]?;
-        let mut link = MemoryLink::new(rt.alloc(), Vec::new(rt.alloc()), fails, 4)?;
-        assert!(rt; link.send(b"ab").is_ok());
-        assert!(rt; link.send(b"c").is_err());
-        assert!(rt; link.send(b"d").is_ok());
-        assert!(rt; link.send(b"ef").is_err());
-        assert!(rt; link.sent() == b"abd".as_slice());
-        Ok(())
-    }
-
-    /// A hub begins with no role and no connection, and its third call is due to fail.
-    #[test]
-    fn a_hub_begins_connections(rt: HostRuntime) -> Result<(), NoMemory> {
-        let link = MemoryLink::new(rt.alloc(), Vec::new(rt.alloc()), Vec::new(rt.alloc()), 4)?;
-        let mut hub = MemoryHub::new(link, 5000, vec![in rt.alloc(); 3]?);
-        let port = match hub.start_board() {
-            Ok(port) => port,
-            Err(Failed) => return Ok(()),
-        };
-        assert!(rt; port == 5000);
-        assert!(rt; hub.dial(port).is_ok());
-        Ok(())
     }
 }

@@ -1,29 +1,28 @@
 //! A store in memory, for tests.
 
-ghost use Rattle.std.specs.Prelude.{◌≡◌, ℕ, List, Some, None, OnOk, true, IsTrue, option_map, length, ◌==◌};
-ghost use Rattle.mf_types.specs.Files.{file_of, OthersStay};
+ghost use Rattle.std.specs.Prelude.{◌≡◌, Some, None, OnOk, true, option_map};
+ghost use Rattle.mf_types.specs.Files.{bytes_under, OthersStay};
 
-use crate::calls::is_due;
-use plain_types::fault::NoMemory;
+use crate::calls::Calls;
 use mf_types::files::NamedFile;
-use plain_types::list::{Items, Text};
 use mf_types::store::{FailedCall, Store, StoreErr};
+use plain_types::fault::NoMemory;
+use plain_types::list::{Items, Text};
 use std::alloc::Global;
 
 /// Files in memory. Of several files of one name the last one counts.
 #[derive(Debug, Drop)]
 pub struct MemoryStore {
     files: Vec<NamedFile>,
-    fails: Vec<u32>,
-    calls: u64,
+    calls: Calls,
     faults: u64,
     failed: Option<FailedCall>,
 }
 
 /// The last file of a name.
-#[tactic(auto, using(crate::proofs::FilesLemmas::file_of_this, crate::proofs::FilesLemmas::file_of_other))]
+#[tactic(auto, using(crate::proofs::FilesLemmas::bytes_under_this, crate::proofs::FilesLemmas::bytes_under_other))]
 fn last_of<'a>(files: &'a [NamedFile], name: &str) -> Option<&'a NamedFile>
-    ensures { option_map (λ file. file.now.bytes) result ≡ file_of files.now name.now }
+    ensures { option_map (λ file. file.now.bytes) result ≡ bytes_under files.now name.now }
 {
     let mut found = None;
     for file in files {
@@ -35,10 +34,10 @@ fn last_of<'a>(files: &'a [NamedFile], name: &str) -> Option<&'a NamedFile>
 }
 
 /// Keeps a file behind the others, where it counts.
-#[tactic(auto, using(crate::proofs::FilesLemmas::file_of_new, crate::proofs::FilesLemmas::file_of_others))]
+#[tactic(auto, using(crate::proofs::FilesLemmas::bytes_under_new, crate::proofs::FilesLemmas::bytes_under_others))]
 fn keep(files: &mut Vec<NamedFile>, file: NamedFile) -> Result<(), NoMemory>
-    ensures kept { OnOk result (file_of files.new.items file.name ≡ Some file.bytes) }
-    ensures others { OthersStay (file_of files.old.items) (file_of files.new.items) file.name }
+    ensures kept { OnOk result (bytes_under files.new.items file.name ≡ Some file.bytes) }
+    ensures others { OthersStay (bytes_under files.old.items) (bytes_under files.new.items) file.name }
 {
     files.push(file)?;
     Ok(())
@@ -47,16 +46,17 @@ fn keep(files: &mut Vec<NamedFile>, file: NamedFile) -> Result<(), NoMemory>
 impl MemoryStore {
     /// A store with these files, whose calls of these numbers fail. The calls of `read` and `put` are counted from 1.
     pub fn new(files: Vec<NamedFile>, fails: Vec<u32>) -> Self
-        ensures tells { IsTrue (⟦<MemoryStore as Store>⟧.tells result) }
-        ensures held { (name : List ℕ) → ⟦<MemoryStore as Store>⟧.held result name ≡ file_of files.items name }
-        ensures faults { ⟦<MemoryStore as Store>⟧.faults result ≡ 0 }
-        ensures failed { ⟦<MemoryStore as Store>⟧.failed result ≡ None }
-        ensures reliable { ⟦<MemoryStore as Store>⟧.is_reliable result ≡ (length fails.items == 0) }
+        ensures { ⟦<MemoryStore as Store>⟧.state result ≡ record {
+          tells = true;
+          held = bytes_under files.items;
+          faults = 0;
+          failed = None;
+          schedule = Some (record { fails = fails.items; made = 0; room = 0 });
+        } }
     {
         MemoryStore {
             files,
-            fails,
-            calls: 0,
+            calls: Calls::new(fails),
             faults: 0,
             failed: None,
         }
@@ -64,26 +64,25 @@ impl MemoryStore {
 
     /// The bytes of a file.
     pub fn bytes(&self, name: &str) -> Option<&[u8]>
-        ensures { option_map (λ bytes. bytes.now) result ≡ ⟦<MemoryStore as Store>⟧.held self.now name.now }
+        ensures { option_map (λ bytes. bytes.now) result ≡ (⟦<MemoryStore as Store>⟧.state self.now).held name.now }
     {
         last_of(&self.files, name).map(|file| file.bytes.as_slice())
     }
 }
 
 impl Store for MemoryStore {
-    ghost tells = { λ _. true };
+    ghost use Rattle.outside_in_memory.specs.Schedules.{schedule_of};
 
-    ghost held = { λ s. file_of s.files.items };
-
-    ghost faults = { λ s. s.faults };
-
-    ghost failed = { λ s. s.failed };
-
-    ghost is_reliable = { λ s. length s.fails.items == 0 };
+    ghost state = { λ s. record {
+      tells = true;
+      held = bytes_under s.files.items;
+      faults = s.faults;
+      failed = s.failed;
+      schedule = Some (schedule_of s.calls 0);
+    } };
 
     fn read(&mut self, alloc: Global, name: &str) -> Result<Vec<u8>, StoreErr> {
-        self.calls = self.calls.saturating_add(1);
-        let found = if is_due(&self.fails, self.calls) {
+        let found = if self.calls.count(0, 0) {
             None
         } else {
             last_of(&self.files, name)
@@ -102,9 +101,9 @@ impl Store for MemoryStore {
     }
 
     fn put(&mut self, alloc: Global, name: &str, bytes: &[u8]) -> Result<(), StoreErr> {
-        self.calls = self.calls.saturating_add(1);
+        let fails = self.calls.count(0, 0);
         let name = Text::copied(alloc, name)?;
-        if is_due(&self.fails, self.calls) {
+        if fails {
             self.faults = self.faults.saturating_add(1);
             self.failed = Some(FailedCall::Put(name));
             return Err(StoreErr::Failed);
@@ -112,27 +111,6 @@ impl Store for MemoryStore {
         let bytes = Vec::from_slice(alloc, bytes).map_err(|_| StoreErr::NoMemory)?;
         let bytes = Items::from_vec(bytes);
         keep(&mut self.files, NamedFile { name, bytes })?;
-        Ok(())
-    }
-}
-
-#[cfg(test)]
-mod tests {
-    use super::*;
-    use std::test::Fail;
-
-    /// The calls of a store, in turn: the second one is to fail.
-    #[test]
-    fn a_due_call_fails_and_tells_its_name(rt: HostRuntime) -> Result<(), Fail> {
-        let fails = vec![in rt.alloc(); 2]?;
-        let mut store = MemoryStore::new(Vec::new(rt.alloc()), fails);
-        store.put(rt.alloc(), "a", b"one")?;
-        assert_eq!(rt; store.put(rt.alloc(), "a", b"two"), Err(StoreErr::Failed));
-        let bytes = store.read(rt.alloc(), "a")?;
-        assert_eq!(rt; bytes.as_slice(), b"one".as_slice());
-        store.put(rt.alloc(), "a", b"three")?;
-        assert_eq!(rt; store.bytes("a").ok_or("a is there")?, b"three".as_slice());
-        assert!(rt; store.bytes("b").is_none());
         Ok(())
     }
 }

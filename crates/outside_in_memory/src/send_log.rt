@@ -16,17 +16,15 @@ pub struct Entry {
     pub silences: u64,
 }
 
-/// The sends of a link, up to a number of bytes.
+/// The sends of a link, and for how many further bytes there is room.
 #[derive(Debug, Drop)]
 pub struct SendLog {
     pub bytes: Vec<u8>,
     pub entries: Vec<Entry>,
-    pub room: usize,
+    pub spare: usize,
     ghost joined: { total entries.items ≡ length bytes.items },
-    ghost some: { vec_len entries ≤ vec_len bytes },
-    ghost within: { vec_len bytes ≤ room },
-    ghost bytes_reserved: { room ≤ vec_capacity bytes },
-    ghost entries_reserved: { room ≤ vec_capacity entries },
+    ghost bytes_reserved: { vec_len bytes + spare ≤ vec_capacity bytes },
+    ghost entries_reserved: { vec_len entries + spare ≤ vec_capacity entries },
 }
 
 impl SendLog {
@@ -34,14 +32,14 @@ impl SendLog {
     pub fn new(alloc: Global, room: u32) -> Result<Self, NoMemory>
         ensures bytes { IfOk result (λ log. log.bytes.items ≡ []) }
         ensures entries { IfOk result (λ log. log.entries.items ≡ []) }
-        ensures room { IfOk result (λ log. log.room ≡ room) }
+        ensures spare { IfOk result (λ log. log.spare ≡ room) }
     {
         let bytes = Vec::with_capacity(alloc, room as usize)?;
         let entries = Vec::with_capacity(alloc, room as usize)?;
         Ok(SendLog {
             bytes,
             entries,
-            room: room as usize,
+            spare: room as usize,
         })
     }
 
@@ -49,12 +47,11 @@ impl SendLog {
     #[tactic(auto, using(crate::proofs::SendLogLemmas::sends_of_push, crate::proofs::SendLogLemmas::total_push))]
     pub fn push(&mut self, sent: &[u8], taken: u64, answers: u64, silences: u64)
         requires some { 0 < length sent.now }
-        requires fits { vec_len self.old.bytes + length sent.now ≤ self.old.room }
+        requires fits { length sent.now ≤ self.old.spare }
         ensures sends { sends_of self.new.entries.items self.new.bytes.items
             ≡ sends_of self.old.entries.items self.old.bytes.items
             ++ (record { bytes = sent.now; taken = taken; answers = answers; silences = silences }) ∷ [] }
-        ensures room { self.new.room ≡ self.old.room }
-        ensures len { vec_len self.new.bytes ≡ vec_len self.old.bytes + length sent.now }
+        ensures spare { self.new.spare ≡ self.old.spare - length sent.now }
     {
         match self.bytes.extend_from_slice(sent) {
             Ok(()) => {}
@@ -66,13 +63,7 @@ impl SendLog {
             answers,
             silences,
         });
-    }
-
-    /// For how many further bytes there is room.
-    pub fn spare(&self) -> usize
-        ensures { result ≡ self.now.room - vec_len self.now.bytes }
-    {
-        self.room - self.bytes.len()
+        self.spare -= sent.len();
     }
 
     /// All bytes that were sent, joined.
