@@ -1,6 +1,7 @@
 //! The packets that come over a link.
 
-ghost use Rattle.std.specs.Prelude.{◌≡◌, ◌≤◌, ◌+◌, ◌++◌, [], length, drop, IsTrue, IsNone, IfOk, OnErr};
+ghost use Rattle.std.specs.Prelude.{◌≡◌, ◌≤◌, ◌+◌, ◌++◌, [], length, drop, IsTrue, IsNone, IfOk, OnErr, IsOk, IsErr};
+ghost use Rattle.plain_types.specs.Schedule.{MustFail, MustWork};
 ghost use Rattle.mf_types.specs.LinkCalls.{HasRoom, FailsToReceive};
 ghost use Rattle.packet_inbox.specs.Taking.{Takes, TakesFrom, Comes};
 
@@ -95,6 +96,8 @@ impl Inbox {
         ensures comes { IfOk result (λ got. Comes got (L.state link.old) (L.state link.new) self.old self.new) }
         ensures failed { OnErr result (FailsToReceive (L.state link.old) (L.state link.new)) }
         ensures held { OnErr result (self.new ≡ self.old) }
+        ensures fails { MustFail (L.state link.old).schedule 0 → IsErr result }
+        ensures works { MustWork (L.state link.old).schedule 0 → IsOk result }
     {
         let mut into = [0; RECEIVE_SIZE];
         let got = link.receive(&mut into)?;
