@@ -47,7 +47,6 @@ few_operations p set room =
     sum_low : (t u v w x y z k : ℕ) → t ≡ u + 1 → u ≡ v + w → w ≡ x + 1 → x ≡ y + z → y ≡ 15 → z ≡ k → k ≤ 121 → v ≤ 2 → t ≤ 140
     sum_low t u v w x y z k e1 e2 e3 e4 e5 e6 l1 l2 = omega arith
 
-
 pub some_operations : (p : Plan) (set : List ℕ) → 1 ≤ length (operations p set)
 unfolding operations
 some_operations p set =

@@ -12,16 +12,29 @@ use Rattle.wire_session.specs.declared.net.Item.{Item}
 use Rattle.wire_session.specs.declared.delivery.Planned.{Planned}
 use Rattle.wire_session.specs.declared.delivery.Planned.TheVariants.{Request, Reply, NewestRequest, NewestReply}
 use Rattle.deploy_model.specs.Board.{Parts, Works, operation_asked}
-use Rattle.deploy_model.specs.World.{World, Event, Send, ToBoard, Stop, ToTool, Begin, happens, MayLeave, IsPossible, run, ArePossible}
+use Rattle.deploy_model.specs.World.{World, Event, Send, ToBoard, Stop, ToTool, Begin, happens, MayLeave, IsPossible, run, ArePossible, asleep}
+use Rattle.deploy_model.specs.Tool.{Goal}
 use Rattle.deploy_model.specs.Play.{Playing, goes_on, due_operation, only_runs, stops_here, by_stop, delivers, answers_reach, does_planned, does_turn, taken_after, play, playing}
 
+-- ---- lists of events one after the other
+pub run_append : (parts : Parts) (es more : List Event) (w : World) → run parts (es ++ more) w ≡ run parts more (run parts es w)
+run_append parts [] more w = refl
+run_append parts (x ∷ xs) more w = run_append parts xs more (happens parts w x)
+
+pub possible_append : (parts : Parts) (es more : List Event) (w : World) → ArePossible parts w es → ArePossible parts (run parts es w) more → ArePossible parts w (es ++ more)
+possible_append parts [] more w these those = those
+possible_append parts (x ∷ xs) more w these those = (these.0, possible_append parts xs more (happens parts w x) these.1 those)
+
+-- a session begins with the content alone
+pub begins_alike : (parts : Parts) (w : World) (g : Goal) → happens parts w (Begin g) ≡ happens parts (asleep w.content) (Begin g)
+unfolding happens
+begins_alike parts w g = refl
+
 run_push : (parts : Parts) (es : List Event) (e : Event) (w : World) → run parts (es ++ e ∷ []) w ≡ happens parts (run parts es w) e
-run_push parts [] e w = refl
-run_push parts (x ∷ xs) e w = run_push parts xs e (happens parts w x)
+run_push parts es e w = run_append parts es (e ∷ []) w
 
 possible_push : (parts : Parts) (es : List Event) (e : Event) (w : World) → ArePossible parts w es → IsPossible parts (run parts es w) e → ArePossible parts w (es ++ e ∷ [])
-possible_push parts [] e w these that = (that, tt)
-possible_push parts (x ∷ xs) e w these that = (these.0, possible_push parts xs e (happens parts w x) these.1 that)
+possible_push parts es e w these that = possible_append parts es (e ∷ []) w these (that, tt)
 
 -- the world is where the events led to, and each of them could happen
 pub record Follows (parts : Parts) (start : World) (p : Playing) : Type 0 where

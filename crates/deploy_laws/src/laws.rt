@@ -1,18 +1,19 @@
 //! Laws of the deployment. Each function does nothing: its contract is the law.
 
-ghost use Rattle.std.specs.Prelude.{◌≡◌, ◌≤◌, ◌<◌, ◌==◌, ◌+◌, ◌-◌, ◌⊎◌, ℕ, suc, List, [], ◌∷◌, length, true, false, slice_index, slice_get, Option, Some};
+ghost use Rattle.std.specs.Prelude.{◌≡◌, ◌≤◌, ◌<◌, ◌==◌, ◌+◌, ◌-◌, ◌⊎◌, ℕ, suc, List, [], ◌∷◌, ◌++◌, length, true, false, slice_index, slice_get, Option, Some};
 ghost use Rattle.std.specs.List.{range_with_len};
 ghost use Rattle.flash_trait.specs.Flash.{Operation, AreBytes, IsStopped};
 ghost use Rattle.wire_packets.specs.declared.packet.Packet.{Packet};
 ghost use Rattle.wire_session.specs.declared.act.Act.TheVariants.{Do};
 ghost use Rattle.wire_packets.specs.declared.command.TheConstants.{BANKS, DONE, FLASH_FAILED, NO_MEMORY};
+ghost use Rattle.wire_packets.specs.declared.payload.TheConstants.{LATE_OLD_FORMAT};
 ghost use Rattle.wire_session.specs.Replies.{matches};
 ghost use Rattle.wire_session.specs.Answering.{act_on};
 ghost use Rattle.deploy_model.specs.Banks.{Format, placed, IsFormat, found, set_in, locate, ROOM, BODY, base, MOST_IMAGES, AreImages, joined, images_at, entries, WholeSet};
 ghost use Rattle.deploy_model.specs.Deployment.{Deploying, HasFailed, next_of, given_way, banks, banks_bytes, plan_for, is_spent, operations, after_all};
 ghost use Rattle.deploy_model.specs.Moments.{Through, IsDeployable, Safe, IsKept};
 ghost use Rattle.deploy_model.specs.Board.{Parts, operation_asked, reply_to};
-ghost use Rattle.deploy_model.specs.World.{World, Event, run, ArePossible, FitsWork, asleep, begins};
+ghost use Rattle.deploy_model.specs.World.{World, Event, Begin, run, ArePossible, FitsWork, asleep, begins};
 ghost use Rattle.deploy_model.specs.Tool.{Goal, DeploysAndRuns, OnlyRuns};
 ghost use Rattle.deploy_model.specs.Numbers.{numbers_of, MOST_REQUESTS, ENOUGH_TURNS};
 ghost use Rattle.deploy_model.specs.Play.{play, playing, honest, ended, CanRun, HasTheRun, fetch_count};
@@ -34,7 +35,7 @@ pub fn safe_operations()
 /// until it is the new one.
 pub fn kept_by_operations()
     ensures { (f : Format) (set start : List ℕ) → length set ≤ ROOM → AreBytes set → length start ≡ 262144 →
-        Through (IsKept start set (plan_for (banks f start)) ((locate f start).kind == 2)) (operations (plan_for (banks f start)) set) start }
+        Through (IsKept start set (plan_for (banks f start)) ((locate f start).kind == LATE_OLD_FORMAT)) (operations (plan_for (banks f start)) set) start }
 {}
 
 /// The content after the last operation of a deployment: the start's, with the set and its number placed in the target
@@ -42,7 +43,7 @@ pub fn kept_by_operations()
 pub fn sets_are_placed()
     ensures { (f : Format) (set start : List ℕ) → length set ≤ ROOM → AreBytes set → length start ≡ 262144 →
         let plan = plan_for (banks f start) in
-        after_all (operations plan set) start ≡ placed (given_way ((locate f start).kind == 2) start) plan.target plan.number set }
+        after_all (operations plan set) start ≡ placed (given_way ((locate f start).kind == LATE_OLD_FORMAT) start) plan.target plan.number set }
 {}
 
 /// Whatever packets are lost, repeated or reordered, wherever the power stops and operations fail, and through any
@@ -66,6 +67,16 @@ pub fn numbers_in_order()
 pub fn numbers_are_few()
     ensures { (parts : Parts) (content : List ℕ) (events : List Event) → ArePossible parts (asleep content) events →
         (run parts events (asleep content)).tool.asking.asked < MOST_REQUESTS }
+{}
+
+/// Sessions on one flash, one after the other, are one list of events: a session that begins in a world goes as one that
+/// begins with its content alone, and lists of events follow each other. So the laws hold of any number of sessions.
+pub fn sessions_follow()
+    ensures begins { (parts : Parts) (goal : Goal) (events : List Event) (w : World) →
+        run parts (Begin goal ∷ events) w ≡ run parts (Begin goal ∷ events) (asleep w.content) }
+    ensures joins { (parts : Parts) (events more : List Event) (w : World) → run parts (events ++ more) w ≡ run parts more (run parts events w) }
+    ensures possible { (parts : Parts) (events more : List Event) (w : World) → ArePossible parts w events → ArePossible parts (run parts events w) more →
+        ArePossible parts w (events ++ more) }
 {}
 
 /// The contents that a stop inside an operation may leave, for the moments of a flash: where the board does a request,
