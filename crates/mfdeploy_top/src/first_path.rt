@@ -10,8 +10,8 @@ use crate::form::code_of;
 use mf_front::jobs::{Job, JobRefusal};
 use mf_front::outcome::{End, Outcome};
 use mf_front::words::job;
-use plain_types::list::Text;
 use mf_types::store::{Store, StoreErr};
+use plain_types::list::Text;
 use std::alloc::Global;
 use tiny_interp::postfix::run1;
 
