@@ -3,8 +3,8 @@
 ghost use Rattle.std.specs.Prelude.{◌≡◌, ◌≢◌, Some, None, false};
 ghost use Rattle.plain_types.specs.Counts.{Rose};
 
-use plain_types::list::Text;
 use mf_types::store::{FailedCall, Store, StoreErr};
+use plain_types::list::Text;
 use std::alloc::Global;
 use std::rt::Files;
 use std::{fs, io};

@@ -2,8 +2,8 @@
 
 ghost use Rattle.std.specs.Prelude.{◌≡◌, [], None, false};
 
-use plain_types::fault::Failed;
 use mf_types::sink::Sink;
+use plain_types::fault::Failed;
 
 /// Standard output. What was written isn't told.
 #[derive(Drop)]

@@ -9,8 +9,8 @@ ghost use Rattle.mfdeploy_top.specs.FirstForm.{is_first_header, is_first_method,
 
 use cil_tables::{Tables, stream};
 use file_tables::bytes::{has_bit, u16_at, u32_at};
-use plain_types::fault::{Fault, Place, WHOLE_FILE};
 use pe_reader::{Pe, metadata};
+use plain_types::fault::{Fault, Place, WHOLE_FILE};
 use tiny_interp::postfix::is_postfix;
 
 /// Whether narrow heaps and the row counts of the first form stand in the header of `#~`.

@@ -4,8 +4,8 @@ ghost use Rattle.std.specs.Prelude.{◌≡◌, ◌++◌, IsTrue, OnOk, OnErr};
 ghost use Rattle.plain_types.specs.Counts.{Rose};
 ghost use Rattle.mf_types.specs.Pieces.{AppendsFront};
 
-use plain_types::fault::Failed;
 use mf_types::sink::Sink;
+use plain_types::fault::Failed;
 
 /// How many bytes are written at once, at most.
 const PIECE: usize = 4096;
