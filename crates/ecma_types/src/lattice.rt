@@ -4,8 +4,8 @@ ghost use Rattle.std.specs.Prelude.{◌≡◌, Bool, Option, IfOk};
 ghost use Rattle.ecma_types.specs.declared.stack.PlaceType.{PlaceType};
 ghost use Rattle.ecma_types.specs.declared.stack.StackType.{StackType};
 
-use plain_types::fault::NoMemory;
 use crate::stack::{PlaceType, StackType};
+use plain_types::fault::NoMemory;
 use std::alloc::Global;
 
 /// The types of a world with their order (ECMA-335 I.8.7, III.1.8.1.3).

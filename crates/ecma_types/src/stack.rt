@@ -1,7 +1,7 @@
 //! Types of places and of the evaluation stack (ECMA-335 I.8.7, III.1.8.1.2).
 
-use plain_types::elem::Elem;
 use crate::id::TypeId;
+use plain_types::elem::Elem;
 
 /// The type of a local, argument, field, element or result.
 #[derive(Clone, Copy, Debug, PartialEq, Eq)]

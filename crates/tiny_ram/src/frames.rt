@@ -59,14 +59,7 @@ fn put_frame(words: &mut [u32], base: usize, end: usize, method: TypeAt, sizes: 
 }
 
 /// Writes a new frame before the innermost one, which then waits.
-fn push_frame(
-    words: &mut [u32],
-    base: usize,
-    low: usize,
-    hot: Hot,
-    method: TypeAt,
-    sizes: [u32; 4],
-)
+fn push_frame(words: &mut [u32], base: usize, low: usize, hot: Hot, method: TypeAt, sizes: [u32; 4])
     requires end { low ≡ base + 3 * frame_cells (fresh_frame method sizes) }
     requires inside { low ≤ length words.old }
     requires small { length words.old ≤ 12582912 }
