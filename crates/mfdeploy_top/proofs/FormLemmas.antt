@@ -1,8 +1,8 @@
 -- What is known of metadata that break no rule.
-use Rattle.std.proofs.Common.{◌≡◌, ℕ, Bool, true, false, List, ◌∷◌, ◌++◌, Option, Some, None, Result, Ok, Err, refl, cond}
+use Rattle.std.proofs.Common.{◌≡◌, ℕ, Bool, true, false, List, Option, Some, Ok, refl, cond}
 use Rattle.plain_types.specs.declared.fault.Fault.{Fault}
 use Rattle.file_tables.specs.Streams.{is_root}
-use Rattle.file_tables.specs.Rules.{Rule, first_broken, unless_broken}
+use Rattle.file_tables.specs.Rules.{unless_broken}
 use Rattle.file_tables.specs.Metadata.{MetadataPart, metadata_of, metadata_rules}
 
 kept : (b : Bool) (fault : Fault) (o : Option Fault) (parts m : MetadataPart) → unless_broken (cond b o (Some fault)) parts ≡ Ok m → b ≡ true

@@ -1,5 +1,5 @@
 -- The first form of a file: an assembly of which the entry method is one expression of constants.
-use Rattle.std.specs.Prelude.{ℕ, ◌+◌, ◌*◌, ◌/◌, ◌%◌, ◌==◌, Bool, ◌&&◌, not, nat_le, if◌then◌else◌, List, [], ◌∷◌, length, take, drop, slice_index, Option, Some, None, option_and_then, is_some}
+use Rattle.std.specs.Prelude.{ℕ, ◌/◌, ◌%◌, ◌==◌, Bool, ◌&&◌, not, nat_le, if◌then◌else◌, List, [], ◌∷◌, length, take, drop, slice_index, Option, Some, None, option_and_then, is_some}
 use Rattle.std.specs.Str.{bytes_eq}
 use Rattle.file_tables.specs.Bytes.{u16_at, u32_at, has_bit}
 use Rattle.file_tables.specs.Pe.{PePart, tail}
