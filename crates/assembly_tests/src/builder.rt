@@ -147,10 +147,7 @@ fn data_and_references_are_read_back(rt: HostRuntime) -> Result<(), Fail> {
         Some([1, 2, 3, 4].as_slice())
     );
     let member = find_row::<MemberRefRow>(tables, 1).ok_or("there is a member")?;
-    assert_eq!(rt;
-        (member.class, text(tables, member.name)),
-        (9, "ToString")
-    );
+    assert_eq!(rt; (member.class, text(tables, member.name)), (9, "ToString"));
     assert_eq!(rt;
         tables.blob(member.signature),
         Some([0x20, 0, 0x0E].as_slice())
