@@ -1,12 +1,9 @@
 //! The listing of a file's tables.
 
+use cil_rows::{MethodDefRow, TypeDefRow, read_row};
 use cil_tables::Tables;
+use file_tables::numbers::{METHOD_DEF, TYPE_DEF};
 use std::io;
-
-/// The numbers of the tables TypeDef and MethodDef (ECMA-335 II.22.37, II.22.26).
-const TYPE_DEF: u8 = 0x02;
-
-const METHOD_DEF: u8 = 0x06;
 
 /// Prints the row count of each table that has rows.
 fn list_counts(rt: &impl Print, tables: &Tables<'_>) -> io::Result<()> {
@@ -20,16 +17,16 @@ fn list_counts(rt: &impl Print, tables: &Tables<'_>) -> io::Result<()> {
 }
 
 /// The text of an index into `#Strings`.
-fn text<'t>(tables: &'t Tables<'_>, index: u32) -> &'t str {
+fn text<'a>(tables: &Tables<'a>, index: u32) -> &'a str {
     tables.string(index).unwrap_or("")
 }
 
 /// Prints a line with two names for each row of a table.
 fn list_types(rt: &impl Print, tables: &Tables<'_>) -> io::Result<()> {
     for n in 1..=tables.rows(TYPE_DEF) {
-        let row = tables.row(TYPE_DEF, n);
-        let name = text(tables, row.columns[1]);
-        let namespace = text(tables, row.columns[2]);
+        let row: TypeDefRow = read_row(tables, n);
+        let name = text(tables, row.name);
+        let namespace = text(tables, row.namespace);
         println!(rt; "type {namespace}.{name}")?;
     }
     Ok(())
@@ -38,8 +35,8 @@ fn list_types(rt: &impl Print, tables: &Tables<'_>) -> io::Result<()> {
 /// Prints a line with its name for each method.
 fn list_methods(rt: &impl Print, tables: &Tables<'_>) -> io::Result<()> {
     for n in 1..=tables.rows(METHOD_DEF) {
-        let row = tables.row(METHOD_DEF, n);
-        let name = text(tables, row.columns[3]);
+        let row: MethodDefRow = read_row(tables, n);
+        let name = text(tables, row.name);
         println!(rt; "method {name}")?;
     }
     Ok(())
