@@ -1,6 +1,6 @@
 -- The internal calls of an assembly are the natives of its items.
 use Rattle.std.proofs.Common.{◌≡◌, ℕ, List, [], ◌∷◌, ◌++◌, map, fold, Bool, true, false, cond, refl, ap, sym, ◌∙◌, append_assoc}
-use Rattle.std.specs.List.{filter, flat_map}
+use Rattle.std.specs.List.{filter}
 use Rattle.std.proofs.lemmas.Grind.{flat_map-append}
 use Rattle.std.proofs.lemmas.List.{append-nil}
 use Rattle.base_tables.specs.Shape.{Item, Body, Kind}

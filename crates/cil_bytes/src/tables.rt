@@ -210,54 +210,69 @@ fn type_ref_numbers(at: Places, row: &TypeRefRow) -> [u32; 3]
 /// The row in the row's own table.
 fn push_own(
     out: &mut Vec<u8>,
-    w: Widths,
+    widths: Widths,
     columns: &[Column],
     at: Places,
     row: &Row,
 ) -> Result<(), NoMemory>
     requires { reach at + row_weight row.now ≤ 5000000 }
-    ensures { OnOk result (out.new.items ≡ out.old.items ++ spelled (map (column_width w) columns.now) (numbers_of at row.now)) }
+    ensures { OnOk result (out.new.items ≡ out.old.items ++ spelled (map (column_width widths) columns.now) (numbers_of at row.now)) }
 {
     match row {
-        Row::TypeDef(t) => push_numbers(out, w, columns, &type_numbers(at, t)),
+        Row::TypeDef(t) => push_numbers(out, widths, columns, &type_numbers(at, t)),
         Row::Field(f) => {
             let name = place_of(at.strings, f.name.as_str());
-            push_numbers(out, w, columns, &[u32::from(f.flags), name, at.blobs])
+            push_numbers(out, widths, columns, &[u32::from(f.flags), name, at.blobs])
         }
-        Row::MethodDef(m) => push_numbers(out, w, columns, &method_numbers(at, m)),
-        Row::AssemblyRef(a) => push_numbers(out, w, columns, &assembly_ref_numbers(at, a)),
-        Row::TypeRef(t) => push_numbers(out, w, columns, &type_ref_numbers(at, t)),
+        Row::MethodDef(m) => push_numbers(out, widths, columns, &method_numbers(at, m)),
+        Row::AssemblyRef(a) => push_numbers(out, widths, columns, &assembly_ref_numbers(at, a)),
+        Row::TypeRef(t) => push_numbers(out, widths, columns, &type_ref_numbers(at, t)),
         Row::MemberRef(m) => {
             let name = place_of(at.strings, m.name.as_str());
-            push_numbers(out, w, columns, &[parent_of(m.parent), name, at.blobs])
+            push_numbers(out, widths, columns, &[parent_of(m.parent), name, at.blobs])
         }
-        Row::TypeSpec(_) | Row::Locals(_) => push_numbers(out, w, columns, &[at.blobs]),
+        Row::TypeSpec(_) | Row::Locals(_) => push_numbers(out, widths, columns, &[at.blobs]),
         Row::InterfaceImpl(i) => {
-            push_numbers(out, w, columns, &[row_of(i.class), type_of(i.interface)])
+            push_numbers(
+                out,
+                widths,
+                columns,
+                &[row_of(i.class), type_of(i.interface)],
+            )
         }
         Row::NestedClass(n) => {
-            push_numbers(out, w, columns, &[row_of(n.nested), row_of(n.enclosing)])
+            push_numbers(
+                out,
+                widths,
+                columns,
+                &[row_of(n.nested), row_of(n.enclosing)],
+            )
         }
-        Row::ClassLayout(l) => push_numbers(out, w, columns, &[0, l.size, row_of(l.class)]),
-        Row::Literal(_) => push_numbers(out, w, columns, &[]),
+        Row::ClassLayout(l) => push_numbers(out, widths, columns, &[0, l.size, row_of(l.class)]),
+        Row::Literal(_) => push_numbers(out, widths, columns, &[]),
     }
 }
 
 /// The row of FieldRVA of a field with data (II.22.18).
 fn push_data(
     out: &mut Vec<u8>,
-    w: Widths,
+    widths: Widths,
     columns: &[Column],
     at: Places,
     row: &Row,
 ) -> Result<(), NoMemory>
     requires { reach at ≤ 5000000 }
-    ensures { OnOk result (out.new.items ≡ out.old.items ++ flat_map (spelled (map (column_width w) columns.now)) (data_row_of at row.now)) }
+    ensures { OnOk result (out.new.items ≡ out.old.items ++ flat_map (spelled (map (column_width widths) columns.now)) (data_row_of at row.now)) }
 {
     match row {
         Row::Field(f) => match f.bytes.as_slice() {
             [] => Ok(()),
-            [_, ..] => push_numbers(out, w, columns, &[CONTENT_RVA + at.content, at.fields + 1]),
+            [_, ..] => push_numbers(
+                out,
+                widths,
+                columns,
+                &[CONTENT_RVA + at.content, at.fields + 1],
+            ),
         },
         _ => Ok(()),
     }
@@ -267,19 +282,19 @@ fn push_data(
 fn push_rows_in(
     out: &mut Vec<u8>,
     table: u8,
-    w: Widths,
+    widths: Widths,
     columns: &[Column],
     at: Places,
     row: &Row,
 ) -> Result<(), NoMemory>
     requires { reach at + row_weight row.now ≤ 5000000 }
-    ensures { OnOk result (out.new.items ≡ out.old.items ++ flat_map (spelled (map (column_width w) columns.now)) (rows_in table at row.now)) }
+    ensures { OnOk result (out.new.items ≡ out.old.items ++ flat_map (spelled (map (column_width widths) columns.now)) (rows_in table at row.now)) }
 {
     if row.table() == table {
-        push_own(out, w, columns, at, row)?;
+        push_own(out, widths, columns, at, row)?;
     }
     if table == FIELD_RVA {
-        push_data(out, w, columns, at, row)?;
+        push_data(out, widths, columns, at, row)?;
     }
     Ok(())
 }
@@ -288,17 +303,17 @@ fn push_rows_in(
 fn push_rows(
     out: &mut Vec<u8>,
     table: u8,
-    w: Widths,
+    widths: Widths,
     columns: &[Column],
     start: Places,
     rows: &[Row],
 ) -> Result<(), NoMemory>
     requires { reach start + sum_by row_weight rows.now ≤ 5000000 }
-    ensures { OnOk result (out.new.items ≡ out.old.items ++ flat_map (spelled (map (column_width w) columns.now)) (rows_from table start rows.now)) }
+    ensures { OnOk result (out.new.items ≡ out.old.items ++ flat_map (spelled (map (column_width widths) columns.now)) (rows_from table start rows.now)) }
 {
     let mut at = start;
     for row in rows {
-        push_rows_in(out, table, w, columns, at, row)?;
+        push_rows_in(out, table, widths, columns, at, row)?;
         at = next_places(at, row);
     }
     Ok(())
@@ -316,20 +331,20 @@ pub struct Source<'a> {
 fn push_fixed(
     out: &mut Vec<u8>,
     table: u8,
-    w: Widths,
+    widths: Widths,
     columns: &[Column],
     source: Source<'_>,
 ) -> Result<(), NoMemory>
-    ensures { OnOk result (out.new.items ≡ out.old.items ++ flat_map (spelled (map (column_width w) columns.now)) (fixed_rows source.entry.name.now source.entry.version table)) }
+    ensures { OnOk result (out.new.items ≡ out.old.items ++ flat_map (spelled (map (column_width widths) columns.now)) (fixed_rows source.entry.name.now source.entry.version table)) }
 {
     let name = place_of(FIRST_NAME, source.name);
     match table {
-        MODULE => push_numbers(out, w, columns, &[0, name, 1, 0, 0]),
-        TYPE_DEF => push_numbers(out, w, columns, &[0, 1, 0, 0, 1, 1]),
+        MODULE => push_numbers(out, widths, columns, &[0, name, 1, 0, 0]),
+        TYPE_DEF => push_numbers(out, widths, columns, &[0, 1, 0, 0, 1, 1]),
         ASSEMBLY => {
             let [major, minor, build, revision] = source.version.map(u32::from);
             let numbers = [HASH_ALGORITHM, major, minor, build, revision, 0, 0, name, 0];
-            push_numbers(out, w, columns, &numbers)
+            push_numbers(out, widths, columns, &numbers)
         }
         _ => Ok(()),
     }
@@ -337,10 +352,15 @@ fn push_fixed(
 
 /// All rows of a table.
 #[tactic(auto, unfolding(cil_layout::specs::Layout::all_spelled))]
-fn push_table(out: &mut Vec<u8>, table: u8, w: Widths, source: Source<'_>) -> Result<(), NoMemory>
+fn push_table(
+    out: &mut Vec<u8>,
+    table: u8,
+    widths: Widths,
+    source: Source<'_>,
+) -> Result<(), NoMemory>
     requires table { table < 64 }
     requires room { 96 + length source.name.now + sum_by row_weight source.rows.now ≤ 4194304 }
-    ensures { OnOk result (out.new.items ≡ out.old.items ++ all_spelled w source.entry.name.now source.entry.version source.entry.rows.now table) }
+    ensures { OnOk result (out.new.items ≡ out.old.items ++ all_spelled widths source.entry.name.now source.entry.version source.entry.rows.now table) }
 {
     let start = Places {
         strings: FIRST_NAME + name_len(source.name),
@@ -350,17 +370,17 @@ fn push_table(out: &mut Vec<u8>, table: u8, w: Widths, source: Source<'_>) -> Re
         methods: 0,
     };
     let columns = columns(table);
-    push_fixed(out, table, w, columns, source)?;
-    push_rows(out, table, w, columns, start, source.rows)
+    push_fixed(out, table, widths, columns, source)?;
+    push_rows(out, table, widths, columns, start, source.rows)
 }
 
 /// The rows of all tables, each column as wide as it is.
-pub fn push_tables(out: &mut Vec<u8>, w: Widths, source: Source<'_>) -> Result<(), NoMemory>
+pub fn push_tables(out: &mut Vec<u8>, widths: Widths, source: Source<'_>) -> Result<(), NoMemory>
     requires { 96 + length source.name.now + sum_by row_weight source.rows.now ≤ 4194304 }
-    ensures { OnOk result (out.new.items ≡ out.old.items ++ flat_map (all_spelled w source.entry.name.now source.entry.version source.entry.rows.now) TABLES) }
+    ensures { OnOk result (out.new.items ≡ out.old.items ++ flat_map (all_spelled widths source.entry.name.now source.entry.version source.entry.rows.now) TABLES) }
 {
     for table in &TABLES {
-        push_table(out, *table, w, source)?;
+        push_table(out, *table, widths, source)?;
     }
     Ok(())
 }
