@@ -9,7 +9,7 @@ use Rattle.byteorder.specs.Endian.{little_bytes}
 use Rattle.byteorder.specs.Numbers.{little_number-reads_back}
 use Rattle.flash_trait.specs.Flash.{Operation, Program, Erase, AreBytes, IsStopped, after, start, covers, wanted, chosen}
 use Rattle.flash_trait.proofs.FlashBytes.{mask_for, chosen_by_mask}
-use Rattle.wire_packets.specs.Decoding.{number}
+use Rattle.little_endian.specs.Numbers.{number}
 use Rattle.wire_packets.specs.Made.{packet_with}
 use Rattle.wire_packets.specs.declared.packet.TheConstants.{REQUEST}
 use Rattle.deploy_model.specs.Banks.{base, ROOM, number_bytes}

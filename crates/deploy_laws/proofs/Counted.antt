@@ -7,7 +7,7 @@ use Rattle.flash_trait.specs.Flash.{Operation}
 use Rattle.wire_packets.specs.declared.packet.Packet.{Packet}
 use Rattle.wire_packets.specs.declared.command.TheConstants.{RUN, FETCH, CLOSE, BANKS, DONE, FLASH_FAILED, NO_MEMORY}
 use Rattle.wire_packets.specs.declared.payload.TheConstants.{MAX_TEXT}
-use Rattle.wire_packets.specs.Decoding.{number}
+use Rattle.little_endian.specs.Numbers.{number}
 use Rattle.wire_session.specs.Asking.{is_awaited, waiting_matches, after_reply}
 use Rattle.wire_session.specs.Replies.{answers, fits, is_end, numbers_fit, has_asked_length}
 use Rattle.deploy_model.specs.Banks.{ROOM}

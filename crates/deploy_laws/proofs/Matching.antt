@@ -8,7 +8,7 @@ use Rattle.flash_trait.specs.Flash.{Operation, AreBytes}
 use Rattle.wire_packets.specs.declared.packet.Packet.{Packet}
 use Rattle.wire_packets.specs.declared.packet.TheConstants.{REPLY}
 use Rattle.wire_packets.specs.declared.command.TheConstants.{OPEN, PROGRAM, ERASE, BANKS, DONE, FLASH_FAILED, NO_MEMORY}
-use Rattle.wire_packets.specs.Decoding.{number}
+use Rattle.little_endian.specs.Numbers.{number}
 use Rattle.wire_session.specs.Replies.{matches, answers, fits, is_banks, banks_fit, flash_shape}
 use Rattle.deploy_model.specs.Banks.{Format, Found, Located, choose, is_set, is_late, number_in, bank_of}
 use Rattle.deploy_model.specs.Deployment.{Banks, banks, banks_bytes, banks_told, marks_of, is_spent, plan_for, operations, Deploying, Asks, HasFailed, IsSpent, next_of, asks_operation, asks_nth, asks_planned, asks_told, TOLD_SIZE}

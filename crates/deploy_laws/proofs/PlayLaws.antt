@@ -7,10 +7,10 @@ use Rattle.flash_trait.specs.declared.flash.Stop as armed
 use Rattle.flash_trait.proofs.FlashContents.{cut_stopped}
 use Rattle.wire_packets.specs.declared.packet.Packet.{Packet}
 use Rattle.wire_session.specs.Answering.{act_on, is_do}
-use Rattle.wire_session.specs.Script.{turn_of, script_after}
-use Rattle.wire_session.specs.declared.net.Item.{Item}
-use Rattle.wire_session.specs.declared.delivery.Planned.{Planned}
-use Rattle.wire_session.specs.declared.delivery.Planned.TheVariants.{Request, Reply, NewestRequest, NewestReply}
+use Rattle.wire_script.specs.Script.{turn_of, script_after}
+use Rattle.wire_script.specs.declared.net.Item.{Item}
+use Rattle.wire_script.specs.declared.delivery.Planned.{Planned}
+use Rattle.wire_script.specs.declared.delivery.Planned.TheVariants.{Request, Reply, NewestRequest, NewestReply}
 use Rattle.deploy_model.specs.Board.{Parts, Works, operation_asked}
 use Rattle.deploy_model.specs.World.{World, Event, Send, ToBoard, Stop, ToTool, Begin, happens, MayLeave, IsPossible, run, ArePossible, asleep}
 use Rattle.deploy_model.specs.Tool.{Goal}

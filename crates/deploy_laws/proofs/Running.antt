@@ -9,7 +9,7 @@ use Rattle.byteorder.specs.Numbers.{little_number-reads_back}
 use Rattle.wire_packets.specs.declared.packet.Packet.{Packet}
 use Rattle.wire_packets.specs.declared.command.TheConstants.{RUN, FETCH, CLOSE, DONE}
 use Rattle.wire_packets.specs.declared.payload.TheConstants.{MAX_TEXT}
-use Rattle.wire_packets.specs.Decoding.{number}
+use Rattle.little_endian.specs.Numbers.{number}
 use Rattle.wire_session.specs.Asking.{Asking, next_request, break_after}
 use Rattle.wire_session.specs.Replies.{answers, fits, is_end, numbers_fit, has_asked_length}
 use Rattle.deploy_model.specs.Deployment.{PIECE}

@@ -5,7 +5,7 @@ use Rattle.byteorder.specs.Endian.{little_bytes}
 use Rattle.byteorder.specs.Numbers.{little_number-reads_back}
 use Rattle.flash_trait.specs.Flash.{AreBytes}
 use Rattle.wire_packets.specs.declared.command.TheConstants.{DONE}
-use Rattle.wire_packets.specs.Decoding.{number}
+use Rattle.little_endian.specs.Numbers.{number}
 use Rattle.std.proofs.lemmas.List.{get_or-drop}
 use Rattle.deploy_model.specs.Banks.{Format, Found, Located, choose, bank_of, base, BANK_SIZE, number_in, is_set, is_late, locate}
 use Rattle.deploy_model.specs.Deployment.{Banks, banks, banks_bytes, banks_told, marks_of}

@@ -10,10 +10,10 @@ use Rattle.wire_session.specs.declared.act.Act.{Act}
 use Rattle.wire_session.specs.declared.act.Act.TheVariants.{Do, Resend, Ignore}
 use Rattle.wire_session.specs.Asking.{is_awaited}
 use Rattle.wire_session.specs.Answering.{act_on, is_do}
-use Rattle.wire_session.specs.Script.{turn_of, script_after}
-use Rattle.wire_session.specs.declared.net.Item.{Item}
-use Rattle.wire_session.specs.declared.delivery.Planned.{Planned}
-use Rattle.wire_session.specs.declared.delivery.Planned.TheVariants.{Request, Reply, NewestRequest, NewestReply}
+use Rattle.wire_script.specs.Script.{turn_of, script_after}
+use Rattle.wire_script.specs.declared.net.Item.{Item}
+use Rattle.wire_script.specs.declared.delivery.Planned.{Planned}
+use Rattle.wire_script.specs.declared.delivery.Planned.TheVariants.{Request, Reply, NewestRequest, NewestReply}
 use Rattle.deploy_model.specs.Banks.{IsFormat}
 use Rattle.deploy_model.specs.Board.{Parts, Works, operation_asked}
 use Rattle.deploy_model.specs.Tool.{Stage, Deploys, Goal, OnlyRuns, Tool, opens}

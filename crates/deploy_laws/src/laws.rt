@@ -17,7 +17,7 @@ ghost use Rattle.deploy_model.specs.World.{World, Event, Begin, run, ArePossible
 ghost use Rattle.deploy_model.specs.Tool.{Goal, DeploysAndRuns, OnlyRuns};
 ghost use Rattle.deploy_model.specs.Numbers.{numbers_of, MOST_REQUESTS, ENOUGH_TURNS};
 ghost use Rattle.deploy_model.specs.Play.{play, playing, honest, ended, CanRun, HasTheRun, fetch_count};
-ghost use Rattle.wire_session.specs.declared.net.Item.{Item};
+ghost use Rattle.wire_script.specs.declared.net.Item.{Item};
 ghost use Rattle.flash_trait.specs.declared.flash.Stop.{Stop};
 ghost use Rattle.deploy_model.specs.Promise.{IsSound, SafeWork};
 

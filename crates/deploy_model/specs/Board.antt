@@ -9,7 +9,7 @@ use Rattle.wire_packets.specs.declared.packet.TheConstants.{REPLY}
 use Rattle.wire_packets.specs.declared.command.TheConstants.{OPEN, READ, PROGRAM, ERASE, RUN, FETCH, CLOSE, BANKS, DONE, NO_REQUEST, FLASH_FAILED, NO_MEMORY}
 use Rattle.wire_packets.specs.declared.payload.TheConstants.{PROGRAM_AT, PROGRAM_BYTES, ERASE_SECTOR, ERASE_SIZE, RANGE_AT, RANGE_LENGTH, RANGE_SIZE, RUN_STEPS, RUN_CELLS, RUN_SIZE}
 use Rattle.wire_packets.specs.Made.{packet_with}
-use Rattle.wire_packets.specs.Decoding.{number}
+use Rattle.little_endian.specs.Numbers.{number}
 use Rattle.wire_session.specs.Replies.{flash_shape}
 use Rattle.deploy_model.specs.Banks.{Format}
 use Rattle.deploy_model.specs.Deployment.{banks, banks_bytes, PIECE}

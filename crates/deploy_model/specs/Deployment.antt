@@ -4,7 +4,7 @@ use Rattle.std.specs.List.{range_with_len}
 use Rattle.byteorder.specs.Endian.{little_bytes}
 use Rattle.wire_packets.specs.declared.command.TheConstants.{OPEN, PROGRAM, ERASE, BANKS, FLASH_FAILED}
 use Rattle.wire_packets.specs.declared.payload.TheConstants.{MAX_PIECE, BANKS_KIND, BANKS_BANK, BANKS_NUMBER, BANKS_MARKS, BANKS_SIZE, NOT_FOUND, LATE_OLD_FORMAT, IN_A_BANK, FIRST_MARK, SECOND_MARK}
-use Rattle.wire_packets.specs.Decoding.{number}
+use Rattle.little_endian.specs.Numbers.{number}
 use Rattle.flash_trait.specs.Flash.{Operation, Program, Erase, after}
 use Rattle.deploy_model.specs.Banks.{Format, base, BODY, LAST_NUMBER, image_marker, bank_marker, number_bytes, holds, Located, locate}
 

@@ -6,10 +6,10 @@ use Rattle.flash_trait.specs.FlashCalls.{counted}
 use Rattle.flash_trait.specs.declared.flash.Stop as armed
 use Rattle.wire_packets.specs.declared.packet.Packet.{Packet}
 use Rattle.wire_session.specs.Answering.{act_on, is_do}
-use Rattle.wire_session.specs.Script.{turn_of, script_after}
-use Rattle.wire_session.specs.declared.net.Item.{Item}
-use Rattle.wire_session.specs.declared.delivery.Planned.{Planned}
-use Rattle.wire_session.specs.declared.delivery.Planned.TheVariants.{Request, Reply, NewestRequest, NewestReply}
+use Rattle.wire_script.specs.Script.{turn_of, script_after}
+use Rattle.wire_script.specs.declared.net.Item.{Item}
+use Rattle.wire_script.specs.declared.delivery.Planned.{Planned}
+use Rattle.wire_script.specs.declared.delivery.Planned.TheVariants.{Request, Reply, NewestRequest, NewestReply}
 use Rattle.wire_packets.specs.declared.command.TheConstants.{DONE}
 use Rattle.wire_packets.specs.declared.payload.TheConstants.{MAX_TEXT}
 use Rattle.wire_session.specs.Replies.{numbers_fit}

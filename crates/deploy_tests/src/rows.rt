@@ -8,12 +8,12 @@ use block_flash::change::Change;
 use block_flash::memory_flash::MemoryFlash;
 use deploy_tool::{Deploy, Step};
 use flash_trait::flash::{FLASH_SIZE, Flash, SECTOR_SIZE, SECTORS, Stop};
+use little_endian::u32_at;
 use plain_types::list::Items;
 use std::alloc::Global;
 use std::process::Abort;
 use std::test::Fail;
 use wire_packets::command::{BANKS, DONE, ERASE, OPEN};
-use wire_packets::decoding::u32_at;
 use wire_packets::packet::Packet;
 use wire_packets::payload::{IN_A_BANK, LATE_OLD_FORMAT};
 

@@ -5,8 +5,8 @@ ghost use Rattle.std.specs.Prelude.{◌≡◌, ◌≤◌, ◌+◌, length, IfOk,
 
 use byteorder::{ByteOrder, LittleEndian};
 use flash_trait::flash::FLASH_SIZE;
+use little_endian::u32_at;
 use std::alloc::{AllocError, Global};
-use wire_packets::decoding::u32_at;
 use wire_packets::payload::{IN_A_BANK, LATE_OLD_FORMAT, NOT_FOUND, OLD_FORMAT};
 
 /// The marker of an image, which is also that of a flash of the format before.

@@ -5,18 +5,24 @@ ghost use Rattle.mf_types.specs.LinkCalls.{HasRoom, FailsToReceive};
 ghost use Rattle.packet_inbox.specs.Taking.{Takes, TakesFrom, Comes};
 
 use arrayvec::ArrayVec;
-use plain_types::fault::Failed;
 use mf_types::link::{Got, Link, RECEIVE_SIZE};
+use plain_types::fault::Failed;
 use std::marker::Model;
-use wire_packets::decoding::{Decoded, decode};
-use wire_packets::packet::Packet;
+use wire_packets::packet::MAX_PACKET;
+use wire_packets::{Decoded, Packet, decode};
+
+/// The most bytes that are held where no packet is whole: one fewer than the longest packet has.
+pub const MOST_HELD: usize = MAX_PACKET - 1;
+
+/// The most bytes that an inbox holds: those of a packet that isn't whole, and those of a receive.
+pub const INBOX_SIZE: usize = MOST_HELD + RECEIVE_SIZE;
 
 /// The first packet of some bytes, and how many bytes it and the damaged ones before it have; or how many are damaged
 /// where no packet is whole.
-pub fn first_packet(bytes: &[u8]) -> (Option<Packet>, usize)
+fn first_packet(bytes: &[u8]) -> (Option<Packet>, usize)
     ensures inside { result.1 ≤ length bytes.now }
     ensures takes { Takes result.0 result.1 bytes.now }
-    ensures few { IsNone result.0 → length (drop result.1 bytes.now) ≤ 1055 }
+    ensures few { IsNone result.0 → length (drop result.1 bytes.now) ≤ MOST_HELD }
 {
     let mut at = 0;
     while at < bytes.len() {
@@ -28,9 +34,6 @@ pub fn first_packet(bytes: &[u8]) -> (Option<Packet>, usize)
     }
     (None, at)
 }
-
-/// The most bytes that are held: those of a packet that isn't whole, and those of a receive.
-pub const INBOX_SIZE: usize = 3103;
 
 /// The bytes that came over a link and weren't read yet. Contracts see it as these bytes.
 #[derive(Debug, Drop)]
@@ -60,10 +63,11 @@ impl Inbox {
         }
     }
 
-    /// Takes the first packet out. Where there is none, what is left is the beginning of one, of at most 1,055 bytes.
+    /// Takes the first packet out. Where there is none, what is left is the beginning of one, of at most
+    /// [`MOST_HELD`] bytes.
     pub fn next(&mut self) -> Option<Packet>
         ensures takes { TakesFrom result self.old self.new }
-        ensures few { IsNone result → length self.new ≤ 1055 }
+        ensures few { IsNone result → length self.new ≤ MOST_HELD }
     {
         let (packet, taken) = first_packet(&self.bytes[self.at..]);
         self.at += taken;
@@ -82,11 +86,12 @@ impl Inbox {
         self.at = 0;
     }
 
-    /// Receives what comes next. `Failed` comes only where the link failed.
+    /// Receives what comes next, and puts it behind what is held, of which no packet is whole. `Failed` comes only
+    /// where the link's count of faults rose, and then nothing changed here.
     pub fn receive<L: Link>(&mut self, link: &mut L) -> Result<Got, Failed>
         requires ready { IsTrue (L.state link.old).ready }
         requires room { HasRoom (L.state link.old) }
-        requires few { length self.old ≤ 1055 }
+        requires few { length self.old ≤ MOST_HELD }
         ensures comes { IfOk result (λ got. Comes got (L.state link.old) (L.state link.new) self.old self.new) }
         ensures failed { OnErr result (FailsToReceive (L.state link.old) (L.state link.new)) }
         ensures held { OnErr result (self.new ≡ self.old) }

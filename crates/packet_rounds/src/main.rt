@@ -6,9 +6,9 @@ use anyhow::{Result, bail};
 use arrayvec::ArrayVec;
 use std::env;
 use wire_packets::command::PROGRAM;
-use wire_packets::decoding::{Decoded, decode};
-use wire_packets::encoding::encode;
-use wire_packets::packet::{MAX_PACKET, Packet, REQUEST};
+use wire_packets::packet::{MAX_PACKET, REQUEST};
+use wire_packets::payload::MAX_PIECE;
+use wire_packets::{Decoded, Packet, decode, encode};
 
 /// How many packets came back whole, and the sum of their sequence numbers modulo 2^32.
 #[derive(Clone, Copy)]
@@ -20,7 +20,7 @@ struct Rounds {
 /// A request to program 1,016 bytes.
 fn request() -> Packet {
     let mut payload = ArrayVec::new();
-    for byte in 0..1016u32 {
+    for byte in 0..MAX_PIECE as u32 {
         let _ = payload.try_push((byte % 251) as u8);
     }
     Packet {

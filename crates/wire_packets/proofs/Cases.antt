@@ -5,7 +5,8 @@ use Rattle.std.specs.Prelude.{if◌then◌else◌}
 use Rattle.std.proofs.Common.{inl, inr}
 use Rattle.std.proofs.lemmas.Bool.{cases_Bool, cases_lt, cases_eq, ltb-true, leb-true, eqb-true, lt-ltb, le-ltb, le-leb, eq-eqb, ne_eqb, and_parts, and_from}
 use Rattle.wire_packets.specs.declared.decoding.Decoded.TheVariants.{Whole, Short, Damaged}
-use Rattle.wire_packets.specs.Decoding.{number, agrees, size, header_sum, is_sound, payload, packet, decoded, BeginsSound}
+use Rattle.little_endian.specs.Numbers.{number}
+use Rattle.wire_packets.specs.Decoding.{agrees, size, header_sum, is_sound, payload, packet, decoded, BeginsSound}
 
 -- the five ways in which bytes can begin, each with its answer
 pub data Beginning (bytes : List ℕ) : Type 0 where

@@ -5,3 +5,4 @@ pub mod Numbers
 pub mod Spelt
 pub mod Read
 pub mod Streams
+pub mod Places

@@ -5,15 +5,17 @@ use Rattle.std.proofs.Math.Seq.{take-add}
 use Rattle.std.proofs.lemmas.List.{take-append-drop, length-take, length-take-le, length-drop, drop-drop}
 use Rattle.byteorder.specs.Endian.{little_bytes}
 use Rattle.wire_packets.specs.declared.packet.Packet.{Packet}
-use Rattle.wire_packets.specs.Spelling.{signature, fields, spelling, IsBytes, IsPacket, Spells}
-use Rattle.wire_packets.specs.Decoding.{number, agrees, size, is_sound, payload, packet, BeginsSound}
+use Rattle.little_endian.specs.Numbers.{AreBytes}
+use Rattle.wire_packets.specs.Spelling.{signature, fields, spelling, IsPacket, Spells}
+use Rattle.little_endian.specs.Numbers.{number}
+use Rattle.wire_packets.specs.Decoding.{agrees, size, is_sound, payload, packet, BeginsSound}
 use Rattle.wire_packets.proofs.Agreement.{take-zip}
 use Rattle.wire_packets.specs.declared.decoding.Decoded.{Decoded}
 use Rattle.wire_packets.specs.declared.decoding.Decoded.TheVariants.{Whole, Short, Damaged}
 use Rattle.wire_packets.specs.Decoding.{decoded, IsShort}
 use Rattle.wire_packets.proofs.Cases.{cut_header, no_header, unsound, cut_payload, broken, whole, beginning, sound_parts, decoded-few, decoded-cut, sound_from}
 use Rattle.wire_packets.proofs.Spelt.{decoded-spelling, length-spelling}
-use Rattle.wire_packets.proofs.Numbers.{bytes_at_2, bytes_at_4, number-lt, IsBytes-drop}
+use Rattle.wire_packets.proofs.Numbers.{bytes_at_2, bytes_at_4, number-lt, AreBytes-drop}
 
 -- 20 bytes by their fields
 split_fields : (xs : List ℕ) → take 20 xs ≡ take 4 xs ++ take 4 (drop 4 xs) ++ take 2 (drop 8 xs) ++ take 2 (drop 10 xs) ++ take 4 (drop 12 xs) ++ take 4 (drop 16 xs)
@@ -25,7 +27,7 @@ split_fields xs =
     ∙ ap (λ (ys : List ℕ). ys ++ take 2 (drop 8 xs)) (take-add 4 4 xs))))
 
 -- the fields that stand in a header
-fields_read : (xs : List ℕ) → IsBytes xs → 32 ≤ length xs
+fields_read : (xs : List ℕ) → AreBytes xs → 32 ≤ length xs
     → take 20 (drop 12 xs) ≡ little_bytes 4 (number 4 12 xs) ++ little_bytes 4 (number 4 16 xs) ++ little_bytes 2 (number 2 20 xs)
     ++ little_bytes 2 (number 2 22 xs) ++ little_bytes 4 (number 4 24 xs) ++ little_bytes 4 (number 4 28 xs)
 fields_read xs bytes long =
@@ -44,7 +46,7 @@ fields_by xs check size =
     ++ little_bytes 2 (number 2 22 xs) ++ little_bytes 4 (number 4 24 xs) ++ little_bytes 4 size
 
 -- the fields of the packet that is read are those that stand there
-fields_again : (xs : List ℕ) → IsBytes xs → 32 + size xs ≤ length xs → sum (payload xs) ≡ number 4 12 xs → fields (packet xs) ≡ take 20 (drop 12 xs)
+fields_again : (xs : List ℕ) → AreBytes xs → 32 + size xs ≤ length xs → sum (payload xs) ≡ number 4 12 xs → fields (packet xs) ≡ take 20 (drop 12 xs)
 fields_again xs bytes there same =
     let rest : length (drop 32 xs) ≡ length xs - 32 = length-drop 32 xs in
     let size_is : length (payload xs) ≡ number 4 28 xs = length-take-le (size xs) (drop 32 xs) (omega arith) in
@@ -63,7 +65,7 @@ parts_of xs n =
     ∙ ap (λ (ys : List ℕ). ys ++ take 20 (drop 12 xs)) (take-add 8 4 xs))
 
 -- what is read is spelt so
-spelt_again : (xs : List ℕ) → IsBytes xs → BeginsSound xs → 32 + size xs ≤ length xs → sum (payload xs) ≡ number 4 12 xs → take (32 + size xs) xs ≡ spelling (packet xs)
+spelt_again : (xs : List ℕ) → AreBytes xs → BeginsSound xs → 32 + size xs ≤ length xs → sum (payload xs) ≡ number 4 12 xs → take (32 + size xs) xs ≡ spelling (packet xs)
 unfolding agrees spelling
 spelt_again xs bytes sound there same =
     let fields_are = fields_again xs bytes there same in
@@ -77,13 +79,13 @@ spelt_again xs bytes sound there same =
     ∙ ap (λ (n : ℕ). spelt_by signature n (take 20 (drop 12 xs)) (payload xs)) check_is
     ∙ ap (λ (ys : List ℕ). spelt_by signature (sum signature + sum (fields (packet xs))) ys (payload xs)) (sym fields_are)
 
-IsBytes-take : (n : ℕ) (xs : List ℕ) → IsBytes xs → IsBytes (take n xs)
-IsBytes-take zero xs bytes i = omega arith
-IsBytes-take (suc n) [] bytes i = omega arith
-IsBytes-take (suc n) (x ∷ xs) bytes zero = bytes 0
-IsBytes-take (suc n) (x ∷ xs) bytes (suc i) = IsBytes-take n xs (λ j. bytes (suc j)) i
+AreBytes-take : (n : ℕ) (xs : List ℕ) → AreBytes xs → AreBytes (take n xs)
+AreBytes-take zero xs bytes i = omega arith
+AreBytes-take (suc n) [] bytes i = omega arith
+AreBytes-take (suc n) (x ∷ xs) bytes zero = bytes 0
+AreBytes-take (suc n) (x ∷ xs) bytes (suc i) = AreBytes-take n xs (λ j. bytes (suc j)) i
 
-is_packet : (xs : List ℕ) → IsBytes xs → BeginsSound xs → IsPacket (packet xs)
+is_packet : (xs : List ℕ) → AreBytes xs → BeginsSound xs → IsPacket (packet xs)
 is_packet xs bytes sound =
     record {
       command = omega (arith, number-lt 4 16 xs bytes);
@@ -91,7 +93,7 @@ is_packet xs bytes sound =
       reply_seq = omega (arith, number-lt 2 22 xs bytes);
       flags = sound.flags;
       size = omega (arith, sound.size, length-take (size xs) (drop 32 xs));
-      payload = IsBytes-take (size xs) (drop 32 xs) (IsBytes-drop 32 xs bytes);
+      payload = AreBytes-take (size xs) (drop 32 xs) (AreBytes-drop 32 xs bytes);
     }
 
 -- which packet is read, and what of it
@@ -100,7 +102,7 @@ pub record Reads (xs : List ℕ) (p : Packet) (n : ℕ) : Type 0 where
   pub within : n ≤ length xs
   pub size : n ≡ 32 + length p.payload.items
 
-reads_whole : (xs : List ℕ) → IsBytes xs → 32 ≤ length xs → is_sound xs ≡ true → 32 + size xs ≤ length xs → sum (payload xs) ≡ number 4 12 xs → Reads xs (packet xs) (32 + size xs)
+reads_whole : (xs : List ℕ) → AreBytes xs → 32 ≤ length xs → is_sound xs ≡ true → 32 + size xs ≤ length xs → sum (payload xs) ≡ number 4 12 xs → Reads xs (packet xs) (32 + size xs)
 reads_whole xs bytes long is there same =
     let sound = sound_parts xs long is in
     let rest : length (drop 32 xs) ≡ length xs - 32 = length-drop 32 xs in
@@ -111,7 +113,7 @@ reads_whole xs bytes long is there same =
     }
 
 -- what is answered as a packet is spelt at the front
-pub whole_read : (xs : List ℕ) → IsBytes xs → (p : Packet) (n : ℕ) → decoded xs ≡ Whole p n → Reads xs p n
+pub whole_read : (xs : List ℕ) → AreBytes xs → (p : Packet) (n : ℕ) → decoded xs ≡ Whole p n → Reads xs p n
 whole_read xs bytes p n is =
     elim (beginning xs) [
       | cut_header few agree e ↦ absurd (cc)

@@ -6,29 +6,31 @@ use Rattle.byteorder.specs.Endian.{little_bytes}
 use Rattle.byteorder.specs.Numbers.{little_number-reads_back}
 use Rattle.wire_packets.specs.declared.packet.Packet.{Packet}
 use Rattle.wire_packets.specs.declared.decoding.Decoded.TheVariants.{Whole}
-use Rattle.wire_packets.specs.Spelling.{signature, fields, spelling, IsBytes, IsPacket}
-use Rattle.wire_packets.specs.Decoding.{number, agrees, size, payload, packet, decoded, BeginsSound}
-use Rattle.wire_packets.proofs.Sums.{sum-bytes, IsBytes-append, IsBytes-bytes_low_first}
+use Rattle.little_endian.specs.Numbers.{AreBytes}
+use Rattle.wire_packets.specs.Spelling.{signature, fields, spelling, IsPacket}
+use Rattle.little_endian.specs.Numbers.{number}
+use Rattle.wire_packets.specs.Decoding.{agrees, size, payload, packet, decoded, BeginsSound}
+use Rattle.wire_packets.proofs.Sums.{sum-bytes, AreBytes-append, AreBytes-bytes_low_first}
 use Rattle.wire_packets.proofs.Agreement.{zip-append}
 use Rattle.wire_packets.proofs.Cases.{decoded-whole, sound_from}
 
-IsBytes-fields : (p : Packet) → IsBytes (fields p)
-IsBytes-fields p =
+AreBytes-fields : (p : Packet) → AreBytes (fields p)
+AreBytes-fields p =
     let a = little_bytes 4 (sum p.payload.items) in
     let b = a ++ little_bytes 4 p.command in
     let c = b ++ little_bytes 2 p.seq in
     let d = c ++ little_bytes 2 p.reply_seq in
     let e = d ++ little_bytes 4 p.flags in
-    let a-is = IsBytes-bytes_low_first 0 4 (sum p.payload.items) in
-    let b-is = IsBytes-append a (little_bytes 4 p.command) a-is (IsBytes-bytes_low_first 0 4 p.command) in
-    let c-is = IsBytes-append b (little_bytes 2 p.seq) b-is (IsBytes-bytes_low_first 0 2 p.seq) in
-    let d-is = IsBytes-append c (little_bytes 2 p.reply_seq) c-is (IsBytes-bytes_low_first 0 2 p.reply_seq) in
-    let e-is = IsBytes-append d (little_bytes 4 p.flags) d-is (IsBytes-bytes_low_first 0 4 p.flags) in
-    IsBytes-append e (little_bytes 4 (length p.payload.items)) e-is (IsBytes-bytes_low_first 0 4 (length p.payload.items))
+    let a-is = AreBytes-bytes_low_first 0 4 (sum p.payload.items) in
+    let b-is = AreBytes-append a (little_bytes 4 p.command) a-is (AreBytes-bytes_low_first 0 4 p.command) in
+    let c-is = AreBytes-append b (little_bytes 2 p.seq) b-is (AreBytes-bytes_low_first 0 2 p.seq) in
+    let d-is = AreBytes-append c (little_bytes 2 p.reply_seq) c-is (AreBytes-bytes_low_first 0 2 p.reply_seq) in
+    let e-is = AreBytes-append d (little_bytes 4 p.flags) d-is (AreBytes-bytes_low_first 0 4 p.flags) in
+    AreBytes-append e (little_bytes 4 (length p.payload.items)) e-is (AreBytes-bytes_low_first 0 4 (length p.payload.items))
 
 -- the header check fits its four bytes
 check_fits : (p : Packet) → sum signature + sum (fields p) < 256 ^ 4
-check_fits p = let bound = sum-bytes (fields p) (IsBytes-fields p) in omega arith
+check_fits p = let bound = sum-bytes (fields p) (AreBytes-fields p) in omega arith
 
 sum_fits : (p : Packet) → IsPacket p → sum p.payload.items < 256 ^ 4
 sum_fits p fits =

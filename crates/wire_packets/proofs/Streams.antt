@@ -8,7 +8,8 @@ use Rattle.wire_packets.specs.declared.packet.Packet.{Packet}
 use Rattle.wire_packets.specs.declared.decoding.Decoded.{Decoded}
 use Rattle.wire_packets.specs.declared.decoding.Decoded.TheVariants.{Whole, Short, Damaged}
 use Rattle.wire_packets.specs.Spelling.{spelling, signature, IsPacket}
-use Rattle.wire_packets.specs.Decoding.{number, agrees, size, header_sum, is_sound, payload, packet, decoded}
+use Rattle.little_endian.specs.Numbers.{number}
+use Rattle.wire_packets.specs.Decoding.{agrees, size, header_sum, is_sound, payload, packet, decoded}
 use Rattle.wire_packets.specs.Stream.{packets_after, packets_within, packets, rest_after, rest_within, unread}
 use Rattle.std.specs.List.{list_all}
 use Rattle.wire_packets.proofs.Agreement.{same, zip-front, zip-less}

@@ -1,4 +1,5 @@
 pub mod Decoding
 pub mod Made
+pub mod Placed
 pub mod Spelling
 pub mod Stream

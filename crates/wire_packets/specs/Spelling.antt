@@ -1,6 +1,7 @@
 -- How a packet is spelt. All numbers are little-endian.
-use Rattle.std.specs.Prelude.{◌≡◌, ℕ, ◌+◌, ◌^◌, ◌<◌, ◌≤◌, List, [], ◌∷◌, ◌++◌, length, sum, slice_index}
+use Rattle.std.specs.Prelude.{◌≡◌, ℕ, ◌+◌, ◌^◌, ◌<◌, ◌≤◌, List, [], ◌∷◌, ◌++◌, length, sum}
 use Rattle.byteorder.specs.Endian.{little_bytes}
+use Rattle.little_endian.specs.Numbers.{AreBytes}
 use Rattle.wire_packets.specs.declared.packet.Packet.{Packet}
 use Rattle.wire_packets.specs.declared.packet.TheConstants.{MAX_PAYLOAD}
 
@@ -22,9 +23,6 @@ header p = signature ++ little_bytes 4 (sum signature + sum (fields p)) ++ field
 unfoldable pub spelling : Packet → List ℕ
 spelling p = header p ++ p.payload.items
 
-abbrev pub IsBytes : List ℕ → Type 0
-IsBytes bytes = (i : ℕ) → slice_index bytes i < 256
-
 -- what can be spelt: numbers of their widths, a request or a reply, at most 1,024 bytes of payload
 pub record IsPacket (p : Packet) : Type 0 where
   pub command : p.command < 2 ^ 32
@@ -32,7 +30,7 @@ pub record IsPacket (p : Packet) : Type 0 where
   pub reply_seq : p.reply_seq < 2 ^ 16
   pub flags : p.flags < 2
   pub size : length p.payload.items ≤ MAX_PAYLOAD
-  pub payload : IsBytes p.payload.items
+  pub payload : AreBytes p.payload.items
 
 -- the bytes are the packet's
 pub record Spells (p : Packet) (bytes : List ℕ) : Type 0 where

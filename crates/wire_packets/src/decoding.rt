@@ -1,14 +1,17 @@
 //! Reading what stands at the front of some bytes.
 
-ghost use Rattle.std.specs.Prelude.{◌≡◌, ℕ, ◌+◌, ◌≤◌, ◌↔◌, IsTrue, length, sum, take};
+ghost use Rattle.std.specs.Prelude.{◌≡◌, ℕ, ◌+◌, ◌≤◌, ◌↔◌, IsTrue, length, take};
 ghost use Rattle.wire_packets.specs.Spelling.{Spells};
 ghost use Rattle.wire_packets.specs.declared.packet.Packet.{Packet};
-ghost use Rattle.wire_packets.specs.Decoding.{agrees, number, is_sound, packet, size, decoded, IsShort};
+ghost use Rattle.wire_packets.specs.Decoding.{agrees, is_sound, packet, size, decoded, IsShort};
 
 use crate::encoding::byte_sum;
-use crate::packet::{HEADER, MAX_PAYLOAD, Packet, SIGNATURE};
+use crate::header::{
+    COMMAND, DATA_CHECK, FLAGS, HEADER, HEADER_CHECK, PAYLOAD_SIZE, REPLY_SEQ, SEQ,
+};
+use crate::packet::{MAX_PAYLOAD, Packet, SIGNATURE};
 use arrayvec::ArrayVec;
-use byteorder::{ByteOrder, LittleEndian};
+use little_endian::{u16_at, u32_at};
 
 /// What stands at the front of some bytes.
 #[derive(Debug, Drop, PartialEq, Eq)]
@@ -29,24 +32,6 @@ fn may_begin(bytes: &[u8]) -> bool
     SIGNATURE.iter().zip(bytes).all(|(a, b)| *a == *b)
 }
 
-/// The number of two bytes at a place, the lowest first.
-#[tactic(auto, unfolding(crate::specs::Decoding::number))]
-pub fn u16_at(bytes: &[u8], at: usize) -> u16
-    requires { at + 2 ≤ length bytes.now }
-    ensures { result ≡ number 2 at bytes.now }
-{
-    LittleEndian::read_u16(&bytes[at..])
-}
-
-/// The number of four bytes at a place, the lowest first.
-#[tactic(auto, unfolding(crate::specs::Decoding::number))]
-pub fn u32_at(bytes: &[u8], at: usize) -> u32
-    requires { at + 4 ≤ length bytes.now }
-    ensures { result ≡ number 4 at bytes.now }
-{
-    LittleEndian::read_u32(&bytes[at..])
-}
-
 /// Whether a sound header stands at the front.
 #[tactic(auto, unfolding(crate::specs::Decoding::is_sound))]
 fn begins_sound(bytes: &[u8]) -> bool
@@ -54,11 +39,11 @@ fn begins_sound(bytes: &[u8]) -> bool
     ensures value { result ≡ is_sound bytes.now }
     ensures size { IsTrue result → size bytes.now ≤ MAX_PAYLOAD }
 {
-    let check = byte_sum(&bytes[..8]) + byte_sum(&bytes[12..HEADER]);
+    let check = byte_sum(&bytes[..HEADER_CHECK]) + byte_sum(&bytes[DATA_CHECK..HEADER]);
     may_begin(bytes)
-        && u32_at(bytes, 8) == check
-        && u32_at(bytes, 24) < 2
-        && u32_at(bytes, 28) <= MAX_PAYLOAD as u32
+        && u32_at(bytes, HEADER_CHECK) == check
+        && u32_at(bytes, FLAGS) < 2
+        && u32_at(bytes, PAYLOAD_SIZE) <= MAX_PAYLOAD as u32
 }
 
 /// The packet of a header and its payload.
@@ -68,16 +53,16 @@ fn packet_of(bytes: &[u8]) -> Packet
     requires whole { HEADER + size bytes.now ≤ length bytes.now }
     ensures { result ≡ packet bytes.now }
 {
-    let size = u32_at(bytes, 28) as usize;
+    let size = u32_at(bytes, PAYLOAD_SIZE) as usize;
     let mut payload = ArrayVec::new();
     payload
         .try_extend_from_slice(&bytes[HEADER..HEADER + size])
         .unwrap();
     Packet {
-        command: u32_at(bytes, 16),
-        seq: u16_at(bytes, 20),
-        reply_seq: u16_at(bytes, 22),
-        flags: u32_at(bytes, 24),
+        command: u32_at(bytes, COMMAND),
+        seq: u16_at(bytes, SEQ),
+        reply_seq: u16_at(bytes, REPLY_SEQ),
+        flags: u32_at(bytes, FLAGS),
         payload,
     }
 }
@@ -97,11 +82,11 @@ fn answer(bytes: &[u8]) -> Decoded
     if !begins_sound(bytes) {
         return Decoded::Damaged;
     }
-    let size = u32_at(bytes, 28);
+    let size = u32_at(bytes, PAYLOAD_SIZE);
     if bytes.len() < HEADER + size as usize {
         return Decoded::Short;
     }
-    if byte_sum(&bytes[HEADER..HEADER + size as usize]) != u32_at(bytes, 12) {
+    if byte_sum(&bytes[HEADER..HEADER + size as usize]) != u32_at(bytes, DATA_CHECK) {
         return Decoded::Damaged;
     }
     Decoded::Whole(packet_of(bytes), HEADER as u32 + size)

@@ -2,21 +2,19 @@
 
 ghost use Rattle.std.specs.Prelude.{◌≡◌, ◌+◌, ◌*◌, ◌<◌, ◌≤◌, ◌++◌, length, sum};
 ghost use Rattle.byteorder.specs.Endian.{little_bytes};
-ghost use Rattle.wire_packets.specs.Spelling.{spelling, fields, IsBytes, IsPacket, Spells};
+ghost use Rattle.wire_packets.specs.Spelling.{spelling, fields, IsPacket, Spells};
+ghost use Rattle.little_endian.specs.Numbers.{AreBytes};
 
+use crate::header::FIELDS_SIZE;
 use crate::packet::{MAX_PACKET, Packet, SIGNATURE};
 use arrayvec::ArrayVec;
-use byteorder::{ByteOrder, LittleEndian};
-
-/// How many bytes of a header stand behind its check.
-const FIELDS_SIZE: usize = 20;
 
 /// The sum of some bytes.
 pub(crate) fn byte_sum(bytes: &[u8]) -> u32
     requires { length bytes.now ≤ MAX_PACKET }
     ensures value { result ≡ sum bytes.now }
     ensures bound { result ≤ 255 * length bytes.now }
-    ensures bytes { IsBytes bytes.now }
+    ensures bytes { AreBytes bytes.now }
 {
     bytes.iter().map(|byte| *byte as u32).sum()
 }
@@ -26,9 +24,7 @@ fn push_u16(out: &mut ArrayVec<u8, FIELDS_SIZE>, number: u16)
     requires { length out.old.items + 2 ≤ FIELDS_SIZE }
     ensures { out.new.items ≡ out.old.items ++ little_bytes 2 number }
 {
-    let mut bytes = [0u8; 2];
-    LittleEndian::write_u16(&mut bytes, number);
-    out.try_extend_from_slice(&bytes).unwrap()
+    out.try_extend_from_slice(&number.to_le_bytes()).unwrap()
 }
 
 /// Appends a number of four bytes.
@@ -36,12 +32,10 @@ fn push_u32<const N: usize>(out: &mut ArrayVec<u8, N>, number: u32)
     requires { length out.old.items + 4 ≤ N }
     ensures { out.new.items ≡ out.old.items ++ little_bytes 4 number }
 {
-    let mut bytes = [0u8; 4];
-    LittleEndian::write_u32(&mut bytes, number);
-    out.try_extend_from_slice(&bytes).unwrap()
+    out.try_extend_from_slice(&number.to_le_bytes()).unwrap()
 }
 
-/// The header's bytes 12 to 31.
+/// The header behind its check.
 fn fields_of(p: &Packet) -> ArrayVec<u8, FIELDS_SIZE>
     ensures value { result.items ≡ fields p.now }
     ensures packet { p.now.flags < 2 → IsPacket p.now }

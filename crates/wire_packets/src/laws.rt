@@ -1,11 +1,13 @@
 //! Laws of the spelling of packets. Each function does nothing: its contract is the law.
 
-ghost use Rattle.std.specs.Prelude.{◌≡◌, ℕ, ◌+◌, List, [], ◌∷◌, ◌++◌, length, drop};
+ghost use Rattle.std.specs.Prelude.{◌≡◌, ℕ, ◌+◌, ◌-◌, ◌<◌, ◌≤◌, List, [], ◌∷◌, ◌++◌, length, drop, map, slice_get, Some};
 ghost use Rattle.std.specs.List.{flat_map, AllByRecursion};
 ghost use Rattle.wire_packets.specs.declared.packet.Packet.{Packet};
 ghost use Rattle.wire_packets.specs.declared.decoding.Decoded.TheVariants.{Whole, Short, Damaged};
 ghost use Rattle.wire_packets.specs.Spelling.{spelling, IsPacket, Spells};
 ghost use Rattle.wire_packets.specs.Decoding.{decoded};
+ghost use Rattle.wire_packets.specs.declared.packet.TheConstants.{MAX_PACKET};
+ghost use Rattle.wire_packets.specs.Placed.{Placed, placed};
 ghost use Rattle.wire_packets.specs.Stream.{packets, unread};
 
 /// What is spelt is read back, whatever follows it.
@@ -40,4 +42,20 @@ pub fn stream_steps()
 pub fn in_pieces()
     ensures packets { (a b : List ℕ) → packets (a ++ b) ≡ packets a ++ packets (unread a ++ b) }
     ensures unread { (a b : List ℕ) → unread (a ++ b) ≡ unread (unread a ++ b) }
+{}
+
+/// The packets of a stream that begins at a place, each with the place where it ends: they are the packets of the
+/// stream, end inside it, and come in pieces as these do.
+pub fn ends_of_packets()
+    ensures packets { (from : ℕ) (bytes : List ℕ) → map (λ p. p.packet) (placed from bytes) ≡ packets bytes }
+    ensures inside { (from i : ℕ) (bytes : List ℕ) (p : Placed) → slice_get (placed from bytes) i ≡ Some p → p.end ≤ from + length bytes }
+    ensures pieces { (from : ℕ) (a b : List ℕ) →
+        placed from (a ++ b) ≡ placed from a ++ placed (from + (length a - length (unread a))) (unread a ++ b) }
+{}
+
+/// What is left unread is the beginning of a packet and shorter than one can be.
+pub fn unread_is_short()
+    ensures beginning { (bytes : List ℕ) → decoded (unread bytes) ≡ Short }
+    ensures fewer { (bytes : List ℕ) → length (unread bytes) ≤ length bytes }
+    ensures room { (bytes : List ℕ) → length (unread bytes) < MAX_PACKET }
 {}

@@ -4,8 +4,11 @@
 pub mod command;
 pub mod decoding;
 pub mod encoding;
+pub mod header;
 pub mod laws;
 pub mod packet;
 pub mod payload;
-#[cfg(test)]
-mod tests;
+
+pub use decoding::{Decoded, decode};
+pub use encoding::encode;
+pub use packet::Packet;

@@ -3,10 +3,8 @@
 ghost use Rattle.std.specs.Prelude.{◌≡◌, ◌≤◌, length};
 ghost use Rattle.wire_packets.specs.Made.{packet_with};
 
+use crate::header::HEADER;
 use arrayvec::ArrayVec;
-
-/// How many bytes stand before a packet's payload.
-pub const HEADER: usize = 32;
 
 /// The most bytes that a payload has.
 pub const MAX_PAYLOAD: usize = 1024;

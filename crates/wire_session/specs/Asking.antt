@@ -4,7 +4,7 @@ use Rattle.wire_packets.specs.declared.packet.Packet.{Packet}
 use Rattle.wire_packets.specs.declared.packet.TheConstants.{REQUEST}
 use Rattle.wire_packets.specs.declared.command.TheConstants.{BREAK}
 use Rattle.wire_packets.specs.declared.payload.TheConstants.{BREAK_PLACE, BREAK_SIZE}
-use Rattle.wire_packets.specs.Decoding.{number}
+use Rattle.little_endian.specs.Numbers.{number}
 use Rattle.wire_packets.specs.Made.{packet_with}
 use Rattle.wire_session.specs.Replies.{matches}
 use Rattle.wire_session.specs.declared.asker.TheConstants.{MOST_TURNS}

@@ -1,6 +1,3 @@
-pub mod Again
 pub mod Answering
 pub mod Asking
-pub mod Net
 pub mod Replies
-pub mod Script

@@ -7,7 +7,7 @@ use Rattle.wire_packets.specs.declared.command.TheConstants.{OPEN, READ, PROGRAM
 use Rattle.wire_packets.specs.declared.payload.TheConstants.{RANGE_LENGTH, RANGE_SIZE, MAX_PIECE, NO_PLACE, END_KIND, END_FIRST, END_SECOND, END_THIRD, END_TEXT, END_SIZE, MAX_TEXT, BANKS_KIND, BANKS_BANK, BANKS_NUMBER, BANKS_MARKS, BANKS_SIZE, IN_A_BANK, STATE_KIND, STATE_COUNT, STATE_SIZE, STOPPED, FINISHED, SEEN_SIZE, SHOWN_KIND, SHOWN_SIZE, METHOD}
 use Rattle.wire_packets.specs.declared.packet.Packet.{Packet}
 use Rattle.wire_packets.specs.declared.packet.TheConstants.{REPLY}
-use Rattle.wire_packets.specs.Decoding.{number}
+use Rattle.little_endian.specs.Numbers.{number}
 
 -- what a flash of this kind has: 32 sectors of 8,192 bytes
 abbrev pub flash_shape : List ℕ

@@ -4,9 +4,9 @@ ghost use Rattle.std.specs.Prelude.{◌≡◌, ◌≤◌, ◌↔◌, length, IfO
 ghost use Rattle.wire_session.specs.Asking.{nothing_asked, next_request, after_ask, is_awaited, after_reply, has_turn, after_turn, break_after};
 
 use crate::replies::matches;
+use little_endian::u32_at;
 use std::marker::Model;
 use wire_packets::command::BREAK;
-use wire_packets::decoding::u32_at;
 use wire_packets::packet::{LAST_SEQ, MAX_PAYLOAD, Packet};
 use wire_packets::payload::{BREAK_PLACE, BREAK_SIZE};
 

@@ -1,23 +1,32 @@
 //! Which reply a request waits for.
 
 ghost use Rattle.std.specs.Prelude.{◌≡◌, ◌<◌, length};
-ghost use Rattle.wire_session.specs.Replies.{numbers_fit, is_end, is_start, has_asked_length, banks_fit, is_banks, stops_nowhere, state_fits, is_state, is_shown, fits, answers, matches};
+ghost use Rattle.std.specs.Str.{bytes_eq};
+ghost use Rattle.wire_session.specs.Replies.{flash_shape, numbers_fit, is_end, is_start, has_asked_length, banks_fit, is_banks, stops_nowhere, state_fits, is_state, is_shown, fits, answers, matches};
 
+use flash_trait::flash::{SECTOR_SIZE, SECTORS};
+use little_endian::{u32_at, write_u32};
 use wire_packets::command::{
     BAD_CODE, BAD_SET, BANKS, BREAK, CLOSE, CONTINUE, DONE, ENDED, ERASE, FETCH, FLASH_FAILED,
     FRAME, HELLO, NO_MEMORY, NO_SET, OPEN, PROGRAM, READ, RUN, START, UNRESOLVED, VALUE,
 };
-use wire_packets::decoding::u32_at;
 use wire_packets::packet::{Packet, REPLY};
 use wire_packets::payload::{
     BANKS_BANK, BANKS_KIND, BANKS_MARKS, BANKS_NUMBER, BANKS_SIZE, END_FIRST, END_KIND, END_SECOND,
     END_SIZE, END_TEXT, END_THIRD, FINISHED, IN_A_BANK, MAX_PIECE, MAX_TEXT, METHOD, NO_PLACE,
-    RANGE_LENGTH, RANGE_SIZE, SEEN_SIZE, SHOWN_KIND, SHOWN_SIZE, STATE_COUNT, STATE_KIND,
-    STATE_SIZE, STOPPED,
+    RANGE_LENGTH, RANGE_SIZE, SEEN_SIZE, SHAPE_SECTOR_SIZE, SHAPE_SECTORS, SHAPE_SIZE, SHOWN_KIND,
+    SHOWN_SIZE, STATE_COUNT, STATE_KIND, STATE_SIZE, STOPPED,
 };
 
-/// What follows [`DONE`] in the reply to Open: 32 sectors of 8,192 bytes.
-const FLASH_SHAPE: [u8; 8] = [32, 0, 0, 0, 0, 32, 0, 0];
+/// Whether the bytes tell the flash's shape.
+fn is_flash_shape(body: &[u8]) -> bool
+    ensures { result ≡ bytes_eq body.now flash_shape }
+{
+    let mut shape = [0; SHAPE_SIZE];
+    write_u32(&mut shape, SHAPE_SECTORS, SECTORS);
+    write_u32(&mut shape, SHAPE_SECTOR_SIZE, SECTOR_SIZE as u32);
+    body == shape.as_slice()
+}
 
 /// Whether there are as many bytes as the request asks for.
 #[tactic(auto, unfolding(crate::specs::Replies::has_asked_length))]
@@ -137,7 +146,7 @@ fn fits(last_break: Option<u32>, command: u32, payload: &[u8], body: &[u8]) -> b
     ensures { result ≡ fits last_break command payload.now body.now }
 {
     match command {
-        OPEN => body == FLASH_SHAPE.as_slice(),
+        OPEN => is_flash_shape(body),
         READ | FETCH => has_asked_length(payload, body),
         RUN => is_end(body, MAX_TEXT),
         BANKS => is_banks(body),
