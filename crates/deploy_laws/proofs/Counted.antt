@@ -1,18 +1,18 @@
 -- How many requests a session asks, and how many it may still ask.
-use Rattle.std.proofs.Common.{◌≡◌, ◌⊎◌, ℕ, zero, suc, ◌+◌, ◌-◌, ◌*◌, ◌^◌, ◌<◌, ◌≤◌, min, Bool, true, false, ◌&&◌, ◌||◌, List, [], ◌∷◌, ◌++◌, length, drop, Option, Some, None, refl, sym, ap, subst, ◌∙◌, inl, inr, arith}
+use Rattle.std.proofs.Common.{◌≡◌, ◌⊎◌, ℕ, ◌+◌, ◌-◌, ◌*◌, ◌^◌, ◌<◌, ◌≤◌, min, Bool, true, false, ◌&&◌, ◌||◌, List, [], ◌∷◌, ◌++◌, length, drop, Option, Some, None, refl, sym, ap, subst, ◌∙◌, inl, inr, arith}
 use Rattle.std.specs.Prelude.{slice_get, slice_index, if◌then◌else◌, ◌==◌, nat_lt, nat_le}
-use Rattle.std.proofs.lemmas.Bool.{and_parts, or_cases, eq-eqb, eqb-true, leb-true, ltb-true, ltb-false, true≢false}
+use Rattle.std.proofs.lemmas.Bool.{and_parts, or_cases, eq-eqb, eqb-true, leb-true, ltb-true, true≢false}
 use Rattle.std.proofs.lemmas.List.{length-append}
 use Rattle.flash_trait.specs.Flash.{Operation}
 use Rattle.wire_packets.specs.declared.packet.Packet.{Packet}
-use Rattle.wire_packets.specs.declared.command.TheConstants.{OPEN, RUN, FETCH, CLOSE, BANKS, DONE, FLASH_FAILED, NO_MEMORY}
+use Rattle.wire_packets.specs.declared.command.TheConstants.{RUN, FETCH, CLOSE, BANKS, DONE, FLASH_FAILED, NO_MEMORY}
 use Rattle.wire_packets.specs.declared.payload.TheConstants.{MAX_TEXT}
 use Rattle.little_endian.specs.Numbers.{number}
 use Rattle.wire_session.specs.Asking.{is_awaited, waiting_matches, after_reply}
-use Rattle.wire_session.specs.Replies.{matches, answers, fits, is_end, numbers_fit, has_asked_length}
+use Rattle.wire_session.specs.Replies.{answers, fits, is_end, numbers_fit, has_asked_length}
 use Rattle.deploy_model.specs.Banks.{ROOM}
-use Rattle.deploy_model.specs.Deployment.{Plan, plan_for, banks_told, is_spent, operations, Deploying, Next, Asks, IsDeployed, HasFailed, IsSpent, next_of, asks_nth, asks_operation, asks_planned, asks_told, TOLD_SIZE, command_of, payload_of, PIECE}
-use Rattle.deploy_model.specs.Tool.{Goal, Stage, Deploys, Opens, Runs, Fetches, Closes, IsOver, Finish, FlashFailed, NumbersSpent, NoMemory, HasRun, Tool, asks, is_over, on_next, on_stage, advanced, takes, fetches, fetch_payload, run_payload, text_length}
+use Rattle.deploy_model.specs.Deployment.{plan_for, banks_told, is_spent, operations, Deploying, Next, Asks, HasFailed, IsSpent, next_of, asks_nth, asks_operation, asks_planned, asks_told, TOLD_SIZE, PIECE}
+use Rattle.deploy_model.specs.Tool.{Stage, Deploys, Opens, Runs, Fetches, Closes, IsOver, Finish, FlashFailed, NumbersSpent, NoMemory, HasRun, Tool, asks, is_over, on_next, on_stage, advanced, takes, fetches, fetch_payload, run_payload, text_length}
 use Rattle.deploy_laws.proofs.Counts.{get_inside, few_operations}
 use Rattle.deploy_laws.proofs.Matching.{matches_answers}
 use Rattle.deploy_laws.proofs.Running.{size_back}

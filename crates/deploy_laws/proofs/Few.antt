@@ -9,9 +9,9 @@ use Rattle.wire_session.specs.Asking.{is_awaited}
 use Rattle.wire_session.specs.Answering.{act_on, is_do}
 use Rattle.deploy_model.specs.Board.{Parts, Outcome, operation_asked}
 use Rattle.deploy_model.specs.Deployment.{next_of}
-use Rattle.deploy_model.specs.Tool.{Work, DeploysAndRuns, OnlyRuns, Goal, Tool, opens, takes}
+use Rattle.deploy_model.specs.Tool.{Work, DeploysAndRuns, OnlyRuns, Goal, Tool, opens}
 use Rattle.deploy_model.specs.World.{World, Event, Send, ToBoard, Stop, ToTool, Begin, on_act, to_board, cut_off, stops, to_tool, takes_reply, FitsWork, happens, IsPossible, run, ArePossible}
-use Rattle.deploy_laws.proofs.Counted.{IsCounted, Advances, taken, left}
+use Rattle.deploy_laws.proofs.Counted.{IsCounted, taken, left}
 
 -- ---- the board leaves the tool
 pub act_tool : (parts : Parts) (w : World) (p : Packet) (outcome : Outcome) (a : Act) → (on_act parts w p outcome a).tool ≡ w.tool

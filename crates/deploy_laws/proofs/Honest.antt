@@ -1,18 +1,16 @@
 -- An honest network deploys, runs what it deployed, fetches the text and closes.
-use Rattle.std.proofs.Common.{◌≡◌, ℕ, zero, suc, ◌+◌, ◌-◌, ◌*◌, ◌/◌, ◌<◌, ◌≤◌, min, Bool, true, false, ◌&&◌, List, [], ◌∷◌, ◌++◌, length, take, drop, Option, Some, None, refl, sym, ap, subst, ◌∙◌, inl, inr, arith}
-use Rattle.std.specs.Prelude.{slice_get, slice_index, if◌then◌else◌, ◌==◌, nat_lt, nat_le}
-use Rattle.std.proofs.lemmas.Bool.{and_from, eq-eqb, ne_eqb, lt-ltb, le-ltb, le-leb, cases_lt}
-use Rattle.std.proofs.lemmas.List.{length-append}
-use Rattle.std.proofs.lemmas.List.FromFn.{length-map-range_with_len}
-use Rattle.flash_trait.specs.Flash.{Operation, Program, Erase, AreBytes, after}
+use Rattle.std.proofs.Common.{◌≡◌, ℕ, zero, suc, ◌+◌, ◌-◌, ◌<◌, ◌≤◌, Bool, true, false, ◌&&◌, List, [], ◌∷◌, ◌++◌, length, take, Option, Some, None, refl, sym, ap, subst, ◌∙◌, arith}
+use Rattle.std.specs.Prelude.{slice_get, if◌then◌else◌, ◌==◌, nat_lt}
+use Rattle.std.proofs.lemmas.Bool.{and_from, eq-eqb, ne_eqb, lt-ltb}
+use Rattle.flash_trait.specs.Flash.{Operation, AreBytes, after}
 use Rattle.wire_packets.specs.declared.packet.Packet.{Packet}
-use Rattle.wire_packets.specs.declared.packet.TheConstants.{REQUEST, LAST_SEQ}
+use Rattle.wire_packets.specs.declared.packet.TheConstants.{LAST_SEQ}
 use Rattle.wire_packets.specs.declared.command.TheConstants.{OPEN, BANKS, DONE}
 use Rattle.wire_session.specs.declared.act.Act.TheVariants.{Do, Resend, Ignore}
 use Rattle.wire_session.specs.Asking.{Asking, next_request, break_after}
-use Rattle.wire_session.specs.Answering.{nothing_done, act_on}
+use Rattle.wire_session.specs.Answering.{act_on}
 use Rattle.wire_session.specs.Replies.{matches, flash_shape}
-use Rattle.deploy_model.specs.Banks.{Format, ROOM, base, number_bytes}
+use Rattle.deploy_model.specs.Banks.{Format, ROOM}
 use Rattle.deploy_model.specs.Deployment.{Plan, plan_for, banks, banks_bytes, banks_told, is_spent, operations, zeroings, fillings, erases, pieces, piece, piece_count, last_operation, eight_zeros, after_all, Deploying, Next, Asks, IsSpent, next_of, asks_nth, asks_operation, asks_planned, asks_told, command_of, payload_of}
 use Rattle.deploy_model.specs.Moments.{IsDeployable}
 use Rattle.deploy_model.specs.Board.{Parts, Works, Did, does, did_asked, did_operation, operation_asked, reply_to}

@@ -1,6 +1,6 @@
 -- An honest network runs what is there, fetches the text and closes.
-use Rattle.std.proofs.Common.{◌≡◌, ℕ, zero, suc, ◌+◌, ◌-◌, ◌*◌, ◌/◌, ◌^◌, ◌<◌, ◌≤◌, min, Bool, true, false, ◌&&◌, List, [], ◌∷◌, ◌++◌, length, take, drop, Option, Some, None, refl, sym, ap, subst, ◌∙◌, arith}
-use Rattle.std.specs.Prelude.{slice_index, if◌then◌else◌, ◌==◌, nat_lt, nat_le}
+use Rattle.std.proofs.Common.{◌≡◌, ℕ, zero, suc, ◌+◌, ◌-◌, ◌*◌, ◌/◌, ◌^◌, ◌<◌, ◌≤◌, min, Bool, true, false, ◌&&◌, List, [], ◌∷◌, ◌++◌, length, take, drop, Option, refl, sym, ap, subst, ◌∙◌, arith}
+use Rattle.std.specs.Prelude.{if◌then◌else◌, ◌==◌, nat_lt, nat_le}
 use Rattle.std.proofs.lemmas.Bool.{and_from, eq-eqb, lt-ltb, le-ltb, le-leb}
 use Rattle.std.proofs.lemmas.List.{length-take, length-drop, take_all}
 use Rattle.std.proofs.Math.Seq.{take-add}
@@ -11,13 +11,13 @@ use Rattle.wire_packets.specs.declared.command.TheConstants.{RUN, FETCH, CLOSE, 
 use Rattle.wire_packets.specs.declared.payload.TheConstants.{MAX_TEXT}
 use Rattle.little_endian.specs.Numbers.{number}
 use Rattle.wire_session.specs.Asking.{Asking, next_request, break_after}
-use Rattle.wire_session.specs.Replies.{matches, answers, fits, is_end, numbers_fit, has_asked_length}
+use Rattle.wire_session.specs.Replies.{answers, fits, is_end, numbers_fit, has_asked_length}
 use Rattle.deploy_model.specs.Deployment.{PIECE}
-use Rattle.deploy_model.specs.Board.{Parts, Ended, Works, Did, did, does, did_asked, did_run, is_run, end_bytes, MOST_CELLS, operation_asked, piece_of, reply_to}
-use Rattle.deploy_model.specs.Tool.{Goal, Stage, Runs, Fetches, Closes, IsOver, HasRun, Tool, asks, advanced, fetches, fetch_payload, run_payload, text_length}
+use Rattle.deploy_model.specs.Board.{Parts, Ended, Works, Did, did, does, did_run, is_run, end_bytes, MOST_CELLS, operation_asked}
+use Rattle.deploy_model.specs.Tool.{Goal, Runs, Fetches, Closes, IsOver, HasRun, Tool, asks, advanced, fetches, fetch_payload, run_payload, text_length}
 use Rattle.deploy_model.specs.World.{World}
 use Rattle.deploy_model.specs.Play.{honest, honest_turn, ended, CanRun, HasTheRun, fetch_count}
-use Rattle.deploy_laws.proofs.Honest.{Scene, world_at, scene_after, answered, turn_goes, turn_by, IsReady, honest_add}
+use Rattle.deploy_laws.proofs.Honest.{Scene, world_at, scene_after, answered, turn_goes, turn_by, IsReady}
 use Rattle.deploy_laws.proofs.Matching.{matches_by}
 
 if_true : {X : Type 0} (b : Bool) (x y : X) → b ≡ true → (if b then x else y) ≡ x

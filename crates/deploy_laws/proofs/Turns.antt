@@ -1,5 +1,5 @@
 -- The turns of a script suffice.
-use Rattle.std.proofs.Common.{◌≡◌, ◌⊎◌, ℕ, zero, suc, ◌+◌, ◌-◌, ◌*◌, ◌≤◌, ◌<◌, Bool, true, false, ◌||◌, List, [], ◌∷◌, ◌++◌, length, Option, Some, None, refl, sym, ap, subst, ◌∙◌, inl, inr, arith}
+use Rattle.std.proofs.Common.{◌≡◌, ◌⊎◌, ℕ, zero, suc, ◌+◌, ◌-◌, ◌*◌, ◌≤◌, ◌<◌, Bool, true, false, ◌||◌, List, [], ◌∷◌, length, Option, Some, None, refl, sym, ap, subst, ◌∙◌, inl, inr, arith}
 use Rattle.std.specs.Prelude.{slice_get, nat_le, ◌==◌, if◌then◌else◌, is_none}
 use Rattle.std.proofs.lemmas.Bool.{or_parts, eq-eqb, true≢false}
 use Rattle.flash_trait.specs.Flash.{Operation, AreBytes, cut}
@@ -8,7 +8,7 @@ use Rattle.flash_trait.specs.declared.flash.Stop as armed
 use Rattle.wire_packets.specs.declared.packet.Packet.{Packet}
 use Rattle.wire_session.specs.declared.act.Act.{Act}
 use Rattle.wire_session.specs.declared.act.Act.TheVariants.{Do, Resend, Ignore}
-use Rattle.wire_session.specs.Asking.{is_awaited, waiting_matches}
+use Rattle.wire_session.specs.Asking.{is_awaited}
 use Rattle.wire_session.specs.Answering.{act_on, is_do}
 use Rattle.wire_script.specs.Script.{turn_of, script_after}
 use Rattle.wire_script.specs.declared.net.Item.{Item}
@@ -17,7 +17,7 @@ use Rattle.wire_script.specs.declared.delivery.Planned.TheVariants.{Request, Rep
 use Rattle.deploy_model.specs.Banks.{IsFormat}
 use Rattle.deploy_model.specs.Board.{Parts, Works, operation_asked}
 use Rattle.deploy_model.specs.Tool.{Stage, Deploys, Goal, OnlyRuns, Tool, opens}
-use Rattle.deploy_model.specs.World.{World, Event, Send, ToBoard, Stop, ToTool, Begin, sent, on_act, to_board, cut_off, stops, to_tool, takes_reply, begins, happens, IsPossible, FitsWork, asleep}
+use Rattle.deploy_model.specs.World.{World, Send, ToBoard, Stop, ToTool, Begin, sent, on_act, to_board, to_tool, takes_reply, begins, happens, FitsWork, asleep}
 use Rattle.deploy_model.specs.Numbers.{ENOUGH_TURNS}
 use Rattle.deploy_model.specs.Play.{Playing, goes_on, due_operation, only_runs, stops_here, by_stop, delivers, answers_reach, does_planned, does_turn, taken_after, play, playing}
 use Rattle.deploy_laws.proofs.Session.{Inv, Before, AtOpen, AtBanks, AtOperation, Later}

@@ -15,9 +15,7 @@ pub const IMAGE: [u8; 8] = *b"MSSpot1\0";
 /// The marker of a bank.
 pub const BANK: [u8; 8] = *b"MSSpot2\0";
 
-/// Where the banks begin, and how many bytes they have.
-const BANKS: [usize; 2] = [0, 131_072];
-
+/// How many bytes a bank has.
 const BANK_SIZE: usize = 122_880;
 
 /// The last end of a set of the format before that lies in bank 0.
@@ -62,9 +60,7 @@ pub fn set(alloc: Global, tag: u8, size: u32) -> Result<Vec<u8>, AllocError>
 }
 
 /// The content of a flash that holds this.
-pub fn content(alloc: Global, start: Start) -> Result<Vec<u8>, AllocError>
-    ensures { IfOk result (λ content. length content.items ≡ 262144) }
-{
+pub fn content(alloc: Global, start: Start) -> Result<Vec<u8>, AllocError> {
     let mut content = vec![in alloc; 0xFF; FLASH_SIZE]?;
     match start {
         Start::Empty => {}
@@ -89,7 +85,7 @@ pub fn content(alloc: Global, start: Start) -> Result<Vec<u8>, AllocError>
 fn image_size(bytes: &[u8]) -> Option<usize>
     ensures { IfSome result (λ size. size ≤ length bytes.now) }
 {
-    if bytes.len() < 64 || bytes[..8] != IMAGE {
+    if bytes.len() < 64 || !bytes.starts_with(&IMAGE) {
         return None;
     }
     let size = u32_at(bytes, 8) as usize;
@@ -115,7 +111,7 @@ fn images_size(bytes: &[u8]) -> Option<usize>
 }
 
 /// The set whose images begin here.
-fn seen(at: usize, bytes: &[u8]) -> Option<Seen> {
+fn standing(at: usize, bytes: &[u8]) -> Option<Seen> {
     let size = images_size(bytes)?;
     let mut sum = 0u32;
     for byte in &bytes[..size] {
@@ -130,18 +126,18 @@ fn in_bank(content: &[u8], bank: usize) -> Option<Seen>
 {
     let at = if bank == 0 { 0 } else { 131_072 };
     let bytes = &content[at..at + BANK_SIZE];
-    if bytes[..8] != BANK {
+    if !bytes.starts_with(&BANK) {
         return None;
     }
-    seen(at + 16, &bytes[16..])
+    standing(at + 16, &bytes[16..])
 }
 
 /// What boot finds.
 pub fn locate(content: &[u8]) -> Located
     requires { length content.now ≡ 262144 }
 {
-    let old = if content[..8] == IMAGE {
-        seen(0, content)
+    let old = if content.starts_with(&IMAGE) {
+        standing(0, content)
     } else {
         None
     };
@@ -188,8 +184,8 @@ pub fn banks_told(content: &[u8]) -> [u8; 11]
     requires { length content.now ≡ 262144 }
 {
     let at = locate(content);
-    let first = content[..8] == IMAGE || content[..8] == BANK;
-    let second = content[131_072..131_080] == BANK;
+    let first = content.starts_with(&IMAGE) || content.starts_with(&BANK);
+    let second = content[131_072..].starts_with(&BANK);
     let mut told = [0u8; 11];
     told[1] = at.kind;
     LittleEndian::write_u32(&mut told[2..6], at.bank);

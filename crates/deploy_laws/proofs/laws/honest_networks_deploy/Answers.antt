@@ -1,4 +1,4 @@
-use Rattle.std.proofs.Common.{ℕ, suc, ◌+◌, length, ap, sym, subst, ◌∙◌, true, false}
+use Rattle.std.proofs.Common.{suc, ◌+◌, length, ap, sym, subst, ◌∙◌, true, false}
 use Rattle.deploy_model.specs.Banks.{found}
 use Rattle.deploy_model.specs.Deployment.{banks, plan_for, operations, after_all}
 use Rattle.deploy_model.specs.World.{World, begins, asleep}

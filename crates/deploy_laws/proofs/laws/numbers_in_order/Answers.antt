@@ -2,7 +2,7 @@ use Rattle.std.proofs.Common.{[], refl}
 use Rattle.std.proofs.lemmas.Bool.{true≢false}
 use Rattle.std.proofs.Common.{sym}
 use Rattle.deploy_model.specs.World.{asleep}
-use Rattle.deploy_laws.proofs.Numbered.{InOrder, in_order}
+use Rattle.deploy_laws.proofs.Numbered.{in_order}
 use Rattle.deploy_laws.proofs.laws.numbers_in_order.Goals as goal
 
 pub returns-clause-order : goal.returns-clause-order
