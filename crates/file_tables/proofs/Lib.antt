@@ -1,3 +1,4 @@
+pub mod SameNumbers
 pub mod CompressedLaws
 mod Examples
 pub mod SchemaLaws

@@ -4,21 +4,21 @@ ghost use Rattle.std.specs.Prelude.{◌≡◌, ◌+◌, ◌<◌, ◌≤◌, leng
 ghost use Rattle.file_tables.specs.Bytes.{u16_at, u32_at, has_bit};
 
 /// The number of two bytes that begins at an offset.
-#[tactic(auto, unfolding(crate::specs::Bytes::u16_at))]
+#[tactic(auto, using(crate::proofs::SameNumbers::of_two))]
 pub fn u16_at(bytes: &[u8], at: usize) -> u16
     requires { at + 2 ≤ length bytes.now }
     ensures { result ≡ u16_at bytes.now at }
 {
-    u16::from_le_bytes([bytes[at], bytes[at + 1]])
+    little_endian::u16_at(bytes, at)
 }
 
 /// The number of four bytes that begins at an offset.
-#[tactic(auto, unfolding(crate::specs::Bytes::u16_at, crate::specs::Bytes::u32_at))]
+#[tactic(auto, using(crate::proofs::SameNumbers::of_four))]
 pub fn u32_at(bytes: &[u8], at: usize) -> u32
     requires { at + 4 ≤ length bytes.now }
     ensures { result ≡ u32_at bytes.now at }
 {
-    u32::from_le_bytes([bytes[at], bytes[at + 1], bytes[at + 2], bytes[at + 3]])
+    little_endian::u32_at(bytes, at)
 }
 
 /// Whether bit `k` of a number is set.

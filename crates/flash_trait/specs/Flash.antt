@@ -1,6 +1,7 @@
 -- What an operation does to the content of a flash, and what a stop of it may leave.
 use Rattle.std.specs.Prelude.{◌≡◌, ℕ, ◌+◌, ◌-◌, ◌*◌, ◌%◌, ◌<◌, ◌≤◌, ◌==◌, nat_le, nat_lt, Bool, ◌&&◌, ◌||◌, IsTrue, if◌then◌else◌, List, length, map, slice_index, bit_and, bit_xor}
 use Rattle.std.specs.List.{range_with_len}
+pub use Rattle.little_endian.specs.Numbers.{AreBytes}
 
 -- an operation: bytes at a place, or a sector of 8,192 bytes
 pub data Operation : Type 0 where
@@ -11,9 +12,6 @@ pub data Operation : Type 0 where
 abbrev pub IsPossible : Operation → Type 0
 IsPossible (Program at bytes) = (0 < length bytes) × (length bytes ≤ 8192) × (at + length bytes ≤ 262144)
 IsPossible (Erase sector) = sector < 32
-
-abbrev pub AreBytes : List ℕ → Type 0
-AreBytes bytes = (i : ℕ) → slice_index bytes i < 256
 
 -- the range of an operation
 abbrev pub start : Operation → ℕ
