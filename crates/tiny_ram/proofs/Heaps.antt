@@ -1,12 +1,12 @@
 -- Objects by their numbers: found, replaced, and made behind the last one.
-use Rattle.std.proofs.Common.{◌≡◌, ◌⊎◌, inl, inr, ⊎_elim, ℕ, ◌+◌, ◌-◌, ◌*◌, ◌<◌, ◌≤◌, Bool, true, false, ◌==◌, List, [], ◌∷◌, ◌++◌, Option, Some, None, refl, sym, ap, ◌∙◌, subst, arith}
+use Rattle.std.proofs.Common.{◌≡◌, ◌⊎◌, inl, inr, ⊎_elim, ℕ, ◌+◌, ◌-◌, ◌*◌, ◌<◌, ◌≤◌, Bool, true, false, ◌==◌, List, [], ◌∷◌, ◌++◌, Some, None, refl, sym, ap, ◌∙◌, subst, arith}
 use Rattle.std.specs.Prelude.{if◌then◌else◌, nat_lt}
 use Rattle.std.proofs.lemmas.Bool.{eqb-true, eqb-false, eq-eqb, ne_eqb, ltb-false, le-ltb, cases_lt}
 use Rattle.ram_words.specs.Region.{SameBut}
-use Rattle.tiny_ram.specs.Things.{Entry, entry_cells, layout_of}
+use Rattle.tiny_ram.specs.Things.{Entry, entry_cells}
 use Rattle.tiny_ram.specs.Memory.{heap_cells, entry_at, put_entry}
 use Rattle.tiny_ram.specs.Region.{Lies, Laid}
-use Rattle.tiny_ram.proofs.Elsewhere.{outside, lies-same, laid-same, some_cells}
+use Rattle.tiny_ram.proofs.Elsewhere.{outside, lies-same, laid-same}
 
 -- the object at a number of a list that begins with x
 first_or_later : (x : Entry) (xs : List Entry) (n : ℕ) (y : Entry) → entry_at (x ∷ xs) n ≡ Some y → ((n ≡ 0) × (x ≡ y)) ⊎ ((0 < n) × (entry_cells x ≤ n) × (entry_at xs (n - entry_cells x) ≡ Some y))

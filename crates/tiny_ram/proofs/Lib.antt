@@ -3,3 +3,5 @@ pub mod Heaps
 pub mod Fresh
 pub mod Stacks
 pub mod Waits
+pub mod Puts
+pub mod Rooms

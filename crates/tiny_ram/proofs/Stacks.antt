@@ -1,11 +1,11 @@
 -- Frames behind a write, and where they end.
-use Rattle.std.proofs.Common.{◌≡◌, ◌⊎◌, inl, inr, ℕ, ◌+◌, ◌-◌, ◌*◌, ◌/◌, ◌%◌, ◌^◌, ◌<◌, ◌≤◌, List, [], ◌∷◌, length, Option, Some, refl, sym, ap, ◌∙◌, subst, arith, get_or}
+use Rattle.std.proofs.Common.{◌≡◌, inr, ℕ, ◌+◌, ◌*◌, ◌/◌, ◌%◌, ◌^◌, ◌<◌, ◌≤◌, List, [], ◌∷◌, Some, sym, ap, ◌∙◌, subst, arith, get_or}
 use Rattle.std.specs.Prelude.{sum}
 use Rattle.ram_words.specs.declared.frames.Hot.{Hot}
 use Rattle.ram_words.specs.Region.{SameBut}
-use Rattle.ram_words.specs.Cells.{row_in, kept_at}
-use Rattle.ram_words.specs.Frames.{sizes_in, sizes_at, method_at, placed, hot_at}
-use Rattle.tiny_ram.specs.Memory.{RamFrame, frame_cells, frames_cells, innermost}
+use Rattle.ram_words.specs.Cells.{row_in}
+use Rattle.ram_words.specs.Frames.{sizes_in, sizes_at, placed, hot_at}
+use Rattle.tiny_ram.specs.Memory.{RamFrame, frame_cells, frames_cells}
 use Rattle.tiny_ram.specs.Region.{Stands, Stacked}
 use Rattle.tiny_ram.proofs.Elsewhere.{Agree, outside, part, kept_at-same}
 
@@ -42,8 +42,7 @@ pub stacked-same : (ws us : List ℕ) (end base : ℕ) (h : Hot) (fs : List RamF
 stacked-same ws us end base h [] a b s d k = (k.0, k.1 ∙ sym (hot_at-same ws us base (outside base (base + 6) a b ws us s (inr d))))
 stacked-same ws us end base h (f ∷ fs) a b s d k =
     let next : ℕ = base + 3 * frame_cells f in
-    let same : hot_at us next ≡ hot_at ws next = hot_at-same ws us next (outside next (next + 6) a b ws us s (inr (omega arith))) in
-    (
+    let same : hot_at us next ≡ hot_at ws next = hot_at-same ws us next (outside next (next + 6) a b ws us s (inr (omega arith))) in (
       stands-same ws us base h f (outside base (base + 3 * frame_cells f) a b ws us s (inr d)) k.0,
       subst (λ (g : Hot). Stacked us end next g fs) (sym same) (stacked-same ws us end next (hot_at ws next) fs a b s (omega arith) k.1),
     )

@@ -1,16 +1,16 @@
 -- A frame is put away, and a new one stands before it; frames are found by their numbers.
-use Rattle.std.proofs.Common.{◌≡◌, ◌≢◌, ◌⊎◌, inl, inr, ⊎_elim, ℕ, zero, suc, ◌+◌, ◌-◌, ◌*◌, ◌/◌, ◌%◌, ◌^◌, ◌<◌, ◌≤◌, Bool, true, false, ◌==◌, List, [], ◌∷◌, length, Option, Some, None, refl, sym, ap, ◌∙◌, subst, arith, get_or}
+use Rattle.std.proofs.Common.{◌≡◌, ◌⊎◌, inl, inr, ⊎_elim, ℕ, ◌+◌, ◌-◌, ◌*◌, ◌/◌, ◌%◌, ◌^◌, ◌<◌, ◌≤◌, Bool, true, false, ◌==◌, List, [], ◌∷◌, length, Some, refl, sym, ap, ◌∙◌, subst, arith, get_or}
 use Rattle.std.specs.Prelude.{sum, if◌then◌else◌, slice_index}
 use Rattle.std.proofs.lemmas.Bool.{eqb-true}
 use Rattle.std.proofs.lemmas.List.{get_or_past}
 use Rattle.ram_words.specs.declared.frames.Hot.{Hot}
 use Rattle.ram_words.specs.Region.{SameBut}
-use Rattle.ram_words.specs.Cells.{row_in, kept_at}
-use Rattle.ram_words.specs.Frames.{sizes_in, sizes_at, method_at, placed, hot_at}
+use Rattle.ram_words.specs.Cells.{row_in}
+use Rattle.ram_words.specs.Frames.{sizes_at, placed, hot_at}
 use Rattle.tiny_ram.specs.Memory.{RamFrame, frame_cells, frames_cells, innermost, frame_at, caller_of, callers}
 use Rattle.tiny_ram.specs.Region.{Stands, Stacked}
-use Rattle.tiny_ram.proofs.Elsewhere.{Agree, outside, part, kept_at-same}
-use Rattle.tiny_ram.proofs.Stacks.{sizes_at-same, hot_at-same, stands-same, stacked-same, stacked-end}
+use Rattle.tiny_ram.proofs.Elsewhere.{outside, kept_at-same}
+use Rattle.tiny_ram.proofs.Stacks.{sizes_at-same, hot_at-same, stacked-same, stacked-end}
 
 -- what was written into the header of the frame that waits from now on
 pub record Away (ws us : List ℕ) (base : ℕ) (h : Hot) : Type 0 where
@@ -39,7 +39,7 @@ away-hot ws us base h f k a room =
     ∙ ap (placed base f.sizes f.depth) (a.place (omega arith))
     ∙ sym k.hot
 
-away-stands : (ws us : List ℕ) (base : ℕ) (h : Hot) (f : RamFrame) → Stands ws base h f → Away ws us base h → base + 3 ≤ length ws → Stands us base h f
+pub away-stands : (ws us : List ℕ) (base : ℕ) (h : Hot) (f : RamFrame) → Stands ws base h f → Away ws us base h → base + 3 ≤ length ws → Stands us base h f
 away-stands ws us base h f k a room = record {
   sizes = sizes_at-same ws us base (outside (base + 3) (base + 6) base (base + 3) ws us a.outside (inr (omega arith))) ∙ k.sizes;
   method = ap row_in a.method ∙ k.method;
@@ -61,8 +61,7 @@ put_away ws us end base h (f ∷ fs) size k a =
     let fills : base + 3 * frame_cells f + 3 * frames_cells fs ≡ end = stacked-end ws end (base + 3 * frame_cells f) (hot_at ws (base + 3 * frame_cells f)) fs k.1 in
     let room : base + 3 ≤ length ws = omega (arith, fills, size) in
     let next : ℕ = base + 3 * frame_cells f in
-    let same : hot_at us next ≡ hot_at ws next = hot_at-same ws us next (outside next (next + 6) base (base + 3) ws us a.outside (inr (omega arith))) in
-    (
+    let same : hot_at us next ≡ hot_at ws next = hot_at-same ws us next (outside next (next + 6) base (base + 3) ws us a.outside (inr (omega arith))) in (
       subst (λ (g : Hot). Stands us base g f) (sym (away-hot ws us base h f k.0 a room)) (away-stands ws us base h f k.0 a room),
       subst (λ (g : Hot). Stacked us end next g fs) (sym same) (stacked-same ws us end next (hot_at ws next) fs base (base + 3) a.outside (omega arith) k.1),
     )
@@ -90,6 +89,7 @@ found ws room low h (g ∷ gs) thing f k e = at (innermost room (g ∷ gs) == th
   where
     fills : low + 3 * frame_cells g + 3 * frames_cells gs ≡ 3 * room
     fills = stacked-end ws (3 * room) (low + 3 * frame_cells g) (hot_at ws (low + 3 * frame_cells g)) gs k.1
+
     at : (b : Bool) → (innermost room (g ∷ gs) == thing) ≡ b → (frame_at room gs thing ≡ Some f → Found ws room (low + 3 * frame_cells g) (hot_at ws (low + 3 * frame_cells g)) gs thing f) → (if b then Some g else frame_at room gs thing) ≡ Some f → Found ws room low h (g ∷ gs) thing f
     at true q deeper s =
         let number : 1 + (room - (frame_cells g + frames_cells gs)) ≡ thing = eqb-true (innermost room (g ∷ gs)) thing q in
@@ -110,9 +110,9 @@ found ws room low h (g ∷ gs) thing f k e = at (innermost room (g ∷ gs) == th
           hot = r.hot;
           stands = r.stands;
           first = inr (⊎_elim
-            (λ (z : (3 * (thing - 1) ≡ next) × (r.hot ≡ hot_at ws next)). let there : low < 3 * (thing - 1) = omega (arith, z.0) in (there, z.1 ∙ ap (hot_at ws) (sym z.0)))
-            (λ (z : (next < 3 * (thing - 1)) × (r.hot ≡ hot_at ws (3 * (thing - 1)))). let there : low < 3 * (thing - 1) = omega (arith, z.0) in (there, z.1))
-            r.first);
+              (λ (z : (3 * (thing - 1) ≡ next) × (r.hot ≡ hot_at ws next)). let there : low < 3 * (thing - 1) = omega (arith, z.0) in (there, z.1 ∙ ap (hot_at ws) (sym z.0)))
+              (λ (z : (next < 3 * (thing - 1)) × (r.hot ≡ hot_at ws (3 * (thing - 1)))). let there : low < 3 * (thing - 1) = omega (arith, z.0) in (there, z.1))
+              r.first);
           rest = r.rest;
           fills = r.fills;
           caller = ap (λ (b : Bool). if b then innermost room gs else caller_of room gs thing) q ∙ r.caller;

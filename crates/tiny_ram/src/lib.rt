@@ -5,6 +5,7 @@ pub mod frames;
 pub mod layout;
 pub mod making;
 pub mod memory;
+pub mod parts;
 pub mod places;
 
 pub use board_types::value::{RamPlace, Shape, Value};

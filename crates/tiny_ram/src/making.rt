@@ -121,9 +121,5 @@ impl Ram {
 pub(crate) fn row_type(elem: Elem, of: TypeAt) -> BoardType
     ensures { result ≡ record { ranks = 0; elem = elem; of = of } }
 {
-    BoardType {
-        ranks: 0,
-        elem,
-        of,
-    }
+    BoardType { ranks: 0, elem, of }
 }

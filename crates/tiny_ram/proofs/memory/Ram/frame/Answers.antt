@@ -1,9 +1,9 @@
-use Rattle.std.proofs.Common.{◌≡◌, ℕ, ◌+◌, ◌-◌, ◌*◌, ◌/◌, ◌<◌, ◌≤◌, List, ◌∷◌, length, inl, refl, sym, ap, ◌∙◌, subst, arith}
+use Rattle.std.proofs.Common.{◌≡◌, ℕ, ◌+◌, ◌-◌, ◌*◌, ◌≤◌, List, ◌∷◌, length, inl, refl, sym, ap, ◌∙◌, subst, arith}
 use Rattle.std.proofs.lemmas.List.{with_items_is}
 use Rattle.ram_words.specs.declared.frames.Hot.{Hot}
 use Rattle.ram_words.specs.Region.{SameBut}
 use Rattle.ram_words.specs.Frames.{hot_at}
-use Rattle.tiny_ram.specs.Memory.{heap_cells, frames_cells, frame_cells, fresh_frame, with_frame}
+use Rattle.tiny_ram.specs.Memory.{frames_cells, fresh_frame, with_frame}
 use Rattle.tiny_ram.specs.Region.{Stacked, Holds}
 use Rattle.tiny_ram.proofs.Elsewhere.{laid-same}
 use Rattle.tiny_ram.proofs.Stacks.{stacked-end}
@@ -42,20 +42,19 @@ returns c m k =
     c.push_frame.ensures.stacked (3 * m.room) m.frames (ap length c.as_mut_slice.ensures.value ∙ k.size)
     (subst (λ (xs : List ℕ). Stacked xs (3 * m.room) low c.args.self.now.hot m.frames) (sym c.as_mut_slice.ensures.value) (subst (λ j. Stacked ws (3 * m.room) j c.args.self.now.hot m.frames) first k.stacked)) in
     let back = with_items_is c.args.self.now.words us (same.size ∙ sym c.args.self.now.words.ok.0) in
-    let hot : c.waiting-self.result ≡ hot_at us base = c.waiting-self.ensures ∙ ap (λ (xs : List ℕ). hot_at xs base) (c.deref.ensures.value ∙ back) in
-    (
+    let hot : c.waiting-self.result ≡ hot_at us base = c.waiting-self.ensures ∙ ap (λ (xs : List ℕ). hot_at xs base) (c.deref.ensures.value ∙ back) in (
       omega (arith, k.heap, end, first, fits, c.total-cells.ensures.sum),
       omega (arith, end, first, fits, c.total-cells.ensures.sum),
       subst (λ (xs : List ℕ). Holds xs at c.waiting-self.result (with_frame m (fresh_frame c.args.method c.args.sizes))) (sym back)
-      (subst (λ (h : Hot). Holds us at h (with_frame m (fresh_frame c.args.method c.args.sizes))) (sym hot)
-      (record {
-        size = same.size ∙ k.size;
-        most = k.most;
-        heap = k.heap;
-        laid = laid-same ws us 0 base (low + 3) m.heap same (inl (omega (arith, k.heap, fits))) k.laid;
-        low = base;
-        low_at = refl;
-        stacked = stacked;
-        order = fits;
-      })),
+          (subst (λ (h : Hot). Holds us at h (with_frame m (fresh_frame c.args.method c.args.sizes))) (sym hot)
+          (record {
+            size = same.size ∙ k.size;
+            most = k.most;
+            heap = k.heap;
+            laid = laid-same ws us 0 base (low + 3) m.heap same (inl (omega (arith, k.heap, fits))) k.laid;
+            low = base;
+            low_at = refl;
+            stacked = stacked;
+            order = fits;
+          })),
     )
