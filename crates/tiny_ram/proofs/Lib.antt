@@ -5,3 +5,4 @@ pub mod Stacks
 pub mod Waits
 pub mod Puts
 pub mod Rooms
+pub mod Kept
