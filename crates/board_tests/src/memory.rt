@@ -70,7 +70,7 @@ fn things_take_their_cells(rt: HostRuntime) -> Result<(), Fail> {
         let mut room = Ram::new(rt.alloc(), cells)?;
         assert_eq!(rt; make(&mut room, asked), Ok(1), "{asked:?}");
         assert_eq!(rt; make(&mut room, Asked::StaticCell), Err(Spent), "{asked:?}");
-        let mut less = Ram::new(rt.alloc(), cells - 1)?;
+        let mut less = Ram::new(rt.alloc(), cells.saturating_sub(1))?;
         assert_eq!(rt; make(&mut less, asked), Err(Spent), "{asked:?}");
     }
     let mut both = Ram::new(rt.alloc(), 14)?;
