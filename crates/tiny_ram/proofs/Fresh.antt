@@ -1,16 +1,15 @@
 -- Words of zeros hold what new things hold.
-use Rattle.std.proofs.Common.{◌≡◌, ℕ, zero, suc, ◌+◌, ◌*◌, ◌/◌, ◌%◌, ◌<◌, ◌≤◌, ◌^◌, ◌==◌, Bool, true, false, List, [], ◌∷◌, length, Option, Some, None, refl, sym, ap, ◌∙◌, subst, arith, get_or, w32}
+use Rattle.std.proofs.Common.{◌≡◌, ℕ, zero, suc, ◌+◌, ◌*◌, ◌/◌, ◌%◌, ◌<◌, ◌^◌, ◌==◌, Bool, true, false, List, [], length, Option, Some, None, refl, sym, ap, ◌∙◌, subst, arith, get_or, w32}
 use Rattle.std.specs.Prelude.{pos, slice_get, replicate, if◌then◌else◌}
 use Rattle.std.specs.Int.{w8, w16, cast_signed, to_le_bytes}
 use Rattle.std.proofs.lemmas.Option.{slice_get-get_or}
 use Rattle.std.proofs.lemmas.List.{length-replicate, get_or-replicate}
 use Rattle.cil_opcodes.specs.declared.shape.IntegerType.TheVariants.{I1, U1, I2, U2, I4, U4, I8, U8}
-use Rattle.board_types.specs.declared.value.Value.{Value}
 use Rattle.board_types.specs.declared.value.Value.TheVariants.{Int}
 use Rattle.board_types.specs.declared.value.Shape.{Shape}
 use Rattle.machine.specs.Data.{Cell, Bits, Refers, cell_bytes}
 use Rattle.ram_words.specs.Cells.{kept_at, value_by}
-use Rattle.ram_words.specs.Elements.{byte_at, half_at, element_at, zero_by, type_held}
+use Rattle.ram_words.specs.Elements.{element_at, zero_by, type_held}
 use Rattle.std.proofs.lemmas.Bool.{eqb-true}
 use Rattle.ram_words.specs.Headers.{static_shape}
 use Rattle.tiny_ram.specs.Things.{Layout, Packed, Bare, Cells, Alone, packed_by, layout_of, cells_in, place_at, fresh_place, IsMade}

@@ -1,15 +1,15 @@
 -- Objects by their numbers: found, replaced, and made behind the last one.
-use Rattle.std.proofs.Common.{◌≡◌, ◌⊎◌, inl, inr, ⊎_elim, ℕ, ◌+◌, ◌-◌, ◌*◌, ◌<◌, ◌≤◌, Bool, true, false, ◌==◌, List, [], ◌∷◌, ◌++◌, Option, Some, None, refl, sym, ap, ◌∙◌, subst, arith}
+use Rattle.std.proofs.Common.{◌≡◌, ◌⊎◌, inl, inr, ⊎_elim, ℕ, ◌+◌, ◌-◌, ◌*◌, ◌<◌, ◌≤◌, Bool, true, false, ◌==◌, List, [], ◌∷◌, ◌++◌, Some, None, refl, sym, ap, ◌∙◌, subst, arith}
 use Rattle.std.specs.Prelude.{if◌then◌else◌, nat_lt}
 use Rattle.std.proofs.lemmas.Bool.{eqb-true, eqb-false, eq-eqb, ne_eqb, ltb-false, le-ltb, cases_lt}
 use Rattle.ram_words.specs.Region.{SameBut}
-use Rattle.tiny_ram.specs.Things.{Entry, entry_cells, layout_of}
+use Rattle.tiny_ram.specs.Things.{Entry, entry_cells}
 use Rattle.tiny_ram.specs.Memory.{heap_cells, entry_at, put_entry}
 use Rattle.tiny_ram.specs.Region.{Lies, Laid}
-use Rattle.tiny_ram.proofs.Elsewhere.{outside, lies-same, laid-same, some_cells}
+use Rattle.tiny_ram.proofs.Elsewhere.{outside, lies-same, laid-same}
 
 -- the object at a number of a list that begins with x
-first_or_later : (x : Entry) (xs : List Entry) (n : ℕ) (y : Entry) → entry_at (x ∷ xs) n ≡ Some y → ((n ≡ 0) × (x ≡ y)) ⊎ ((0 < n) × (entry_cells x ≤ n) × (entry_at xs (n - entry_cells x) ≡ Some y))
+pub first_or_later : (x : Entry) (xs : List Entry) (n : ℕ) (y : Entry) → entry_at (x ∷ xs) n ≡ Some y → ((n ≡ 0) × (x ≡ y)) ⊎ ((0 < n) × (entry_cells x ≤ n) × (entry_at xs (n - entry_cells x) ≡ Some y))
 first_or_later x xs n y e = at (n == 0) refl (nat_lt n (entry_cells x)) refl e
   where
     at : (b : Bool) → (n == 0) ≡ b → (q : Bool) → nat_lt n (entry_cells x) ≡ q → (if b then Some x else (if q then None else entry_at xs (n - entry_cells x))) ≡ Some y → ((n ≡ 0) × (x ≡ y)) ⊎ ((0 < n) × (entry_cells x ≤ n) × (entry_at xs (n - entry_cells x) ≡ Some y))
@@ -30,10 +30,10 @@ laid-at ws at n (x ∷ xs) y h e =
     subst (λ j. Lies ws j y) i (laid-at ws (at + 3 * entry_cells x) (n - entry_cells x) xs y h.1 z.2))
     (first_or_later x xs n y e)
 
-put_first : (x : Entry) (xs : List Entry) (n : ℕ) (y : Entry) → n ≡ 0 → put_entry (x ∷ xs) n y ≡ y ∷ xs
+pub put_first : (x : Entry) (xs : List Entry) (n : ℕ) (y : Entry) → n ≡ 0 → put_entry (x ∷ xs) n y ≡ y ∷ xs
 put_first x xs n y e = ap (λ (b : Bool). if b then y ∷ xs else (if nat_lt n (entry_cells x) then x ∷ xs else x ∷ put_entry xs (n - entry_cells x) y)) (eq-eqb n 0 e)
 
-put_later : (x : Entry) (xs : List Entry) (n : ℕ) (y : Entry) → 0 < n → entry_cells x ≤ n → put_entry (x ∷ xs) n y ≡ x ∷ put_entry xs (n - entry_cells x) y
+pub put_later : (x : Entry) (xs : List Entry) (n : ℕ) (y : Entry) → 0 < n → entry_cells x ≤ n → put_entry (x ∷ xs) n y ≡ x ∷ put_entry xs (n - entry_cells x) y
 put_later x xs n y h k =
     ap (λ (b : Bool). if b then y ∷ xs else (if nat_lt n (entry_cells x) then x ∷ xs else x ∷ put_entry xs (n - entry_cells x) y)) (ne_eqb n 0 (λ e. omega arith))
     ∙ ap (λ (b : Bool). if b then x ∷ xs else x ∷ put_entry xs (n - entry_cells x) y) (le-ltb n (entry_cells x) k)

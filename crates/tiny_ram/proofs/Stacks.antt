@@ -1,11 +1,11 @@
 -- Frames behind a write, and where they end.
-use Rattle.std.proofs.Common.{◌≡◌, ◌⊎◌, inl, inr, ℕ, ◌+◌, ◌-◌, ◌*◌, ◌/◌, ◌%◌, ◌^◌, ◌<◌, ◌≤◌, List, [], ◌∷◌, length, Option, Some, refl, sym, ap, ◌∙◌, subst, arith, get_or}
+use Rattle.std.proofs.Common.{◌≡◌, inr, ℕ, ◌+◌, ◌*◌, ◌/◌, ◌%◌, ◌^◌, ◌<◌, ◌≤◌, List, [], ◌∷◌, Some, sym, ap, ◌∙◌, subst, arith, get_or}
 use Rattle.std.specs.Prelude.{sum}
 use Rattle.ram_words.specs.declared.frames.Hot.{Hot}
 use Rattle.ram_words.specs.Region.{SameBut}
-use Rattle.ram_words.specs.Cells.{row_in, kept_at}
-use Rattle.ram_words.specs.Frames.{sizes_in, sizes_at, method_at, placed, hot_at}
-use Rattle.tiny_ram.specs.Memory.{RamFrame, frame_cells, frames_cells, innermost}
+use Rattle.ram_words.specs.Cells.{row_in}
+use Rattle.ram_words.specs.Frames.{sizes_in, sizes_at, placed, hot_at}
+use Rattle.tiny_ram.specs.Memory.{RamFrame, frame_cells, frames_cells}
 use Rattle.tiny_ram.specs.Region.{Stands, Stacked}
 use Rattle.tiny_ram.proofs.Elsewhere.{Agree, outside, part, kept_at-same}
 

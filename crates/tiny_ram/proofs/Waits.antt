@@ -1,16 +1,16 @@
 -- A frame is put away, and a new one stands before it; frames are found by their numbers.
-use Rattle.std.proofs.Common.{◌≡◌, ◌≢◌, ◌⊎◌, inl, inr, ⊎_elim, ℕ, zero, suc, ◌+◌, ◌-◌, ◌*◌, ◌/◌, ◌%◌, ◌^◌, ◌<◌, ◌≤◌, Bool, true, false, ◌==◌, List, [], ◌∷◌, length, Option, Some, None, refl, sym, ap, ◌∙◌, subst, arith, get_or}
+use Rattle.std.proofs.Common.{◌≡◌, ◌⊎◌, inl, inr, ⊎_elim, ℕ, ◌+◌, ◌-◌, ◌*◌, ◌/◌, ◌%◌, ◌^◌, ◌<◌, ◌≤◌, Bool, true, false, ◌==◌, List, [], ◌∷◌, length, Some, refl, sym, ap, ◌∙◌, subst, arith, get_or}
 use Rattle.std.specs.Prelude.{sum, if◌then◌else◌, slice_index}
 use Rattle.std.proofs.lemmas.Bool.{eqb-true}
 use Rattle.std.proofs.lemmas.List.{get_or_past}
 use Rattle.ram_words.specs.declared.frames.Hot.{Hot}
 use Rattle.ram_words.specs.Region.{SameBut}
-use Rattle.ram_words.specs.Cells.{row_in, kept_at}
-use Rattle.ram_words.specs.Frames.{sizes_in, sizes_at, method_at, placed, hot_at}
+use Rattle.ram_words.specs.Cells.{row_in}
+use Rattle.ram_words.specs.Frames.{sizes_at, placed, hot_at}
 use Rattle.tiny_ram.specs.Memory.{RamFrame, frame_cells, frames_cells, innermost, frame_at, caller_of, callers}
 use Rattle.tiny_ram.specs.Region.{Stands, Stacked}
-use Rattle.tiny_ram.proofs.Elsewhere.{Agree, outside, part, kept_at-same}
-use Rattle.tiny_ram.proofs.Stacks.{sizes_at-same, hot_at-same, stands-same, stacked-same, stacked-end}
+use Rattle.tiny_ram.proofs.Elsewhere.{outside, kept_at-same}
+use Rattle.tiny_ram.proofs.Stacks.{sizes_at-same, hot_at-same, stacked-same, stacked-end}
 
 -- what was written into the header of the frame that waits from now on
 pub record Away (ws us : List ℕ) (base : ℕ) (h : Hot) : Type 0 where
@@ -39,7 +39,7 @@ away-hot ws us base h f k a room =
     ∙ ap (placed base f.sizes f.depth) (a.place (omega arith))
     ∙ sym k.hot
 
-away-stands : (ws us : List ℕ) (base : ℕ) (h : Hot) (f : RamFrame) → Stands ws base h f → Away ws us base h → base + 3 ≤ length ws → Stands us base h f
+pub away-stands : (ws us : List ℕ) (base : ℕ) (h : Hot) (f : RamFrame) → Stands ws base h f → Away ws us base h → base + 3 ≤ length ws → Stands us base h f
 away-stands ws us base h f k a room = record {
   sizes = sizes_at-same ws us base (outside (base + 3) (base + 6) base (base + 3) ws us a.outside (inr (omega arith))) ∙ k.sizes;
   method = ap row_in a.method ∙ k.method;

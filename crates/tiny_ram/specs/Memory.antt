@@ -1,13 +1,15 @@
 -- A memory as its calls show it: objects by their first cells from below, frames from above.
-use Rattle.std.specs.Prelude.{◌≡◌, ℕ, ℤ, pos, ◌+◌, ◌-◌, ◌*◌, ◌<◌, ◌≤◌, ◌==◌, nat_lt, Bool, true, false, if◌then◌else◌, List, [], ◌∷◌, ◌++◌, length, sum, replicate, Option, Some, None, slice_get, slice_set, slice_index, unwrap_or}
+use Rattle.std.specs.Prelude.{◌≡◌, ℕ, ℤ, pos, ◌+◌, ◌-◌, ◌<◌, ◌≤◌, ◌==◌, nat_lt, Bool, false, if◌then◌else◌, List, [], ◌∷◌, ◌++◌, sum, replicate, Option, Some, None, slice_get, slice_set, slice_index, unwrap_or}
 use Rattle.plain_types.specs.declared.elem.Elem.{Elem}
 use Rattle.plain_types.specs.declared.elem.Elem.TheVariants.{Void}
 use Rattle.board_types.specs.declared.board.TypeAt.{TypeAt}
 use Rattle.board_types.specs.declared.value.Shape.{Shape}
 use Rattle.board_types.specs.declared.value.Value.{Value}
-use Rattle.board_types.specs.declared.value.Value.TheVariants.{Int, Long, Ref, Pointer, Handle}
+use Rattle.board_types.specs.declared.value.Value.TheVariants.{Int}
 use Rattle.ram_words.specs.Elements.{elem_held, cut_by, zero_by}
-use Rattle.tiny_ram.specs.Things.{Entry, entry_cells, layout_of, row_type}
+use Rattle.tiny_ram.specs.declared.parts.Part.{Part}
+use Rattle.tiny_ram.specs.declared.parts.Part.TheVariants.{Slot, CodePlace, Depth, Initialiser, Past}
+use Rattle.tiny_ram.specs.Things.{Entry, entry_cells, row_type}
 
 -- a frame: its method, the numbers of its arguments, locals, stack places and clauses, what was put into these places, its place in
 -- the code, how many values its stack has, and whether it initialises a class
@@ -106,14 +108,7 @@ put_in_frame m thing f = record m { frames = put_frame m.room m.frames thing f }
 abbrev pub frame_shape : RamFrame → Shape
 frame_shape f = record { what = 4; of = row_type Void f.method; count = sum f.sizes }
 
--- the parts of a frame behind its arguments, locals, stack places and clause slots
-pub data Part : Type 0 where
-  Slot : Part
-  CodePlace : Part
-  Depth : Part
-  Initialiser : Part
-  Past : Part
-
+-- the part of a frame that an index names, behind so many places
 abbrev pub part_of : ℕ → ℕ → Part
 part_of total i =
     if nat_lt i total then Slot
@@ -121,7 +116,7 @@ part_of total i =
     else (if i == total + 1 then Depth
     else (if i == total + 2 then Initialiser else Past)))
 
--- what the part holds: the last three are int32s
+-- what the part holds: behind the places that are int32s
 abbrev pub part_value : RamFrame → ℕ → Part → Option Value
 part_value f i Slot = unwrap_or (slice_get f.places i) None
 part_value f i CodePlace = Some (Int f.place)
@@ -152,3 +147,10 @@ FrameTakes f i v = PartTakes f (part_of (sum f.sizes) i) v
 
 abbrev pub with_frame_value : RamFrame → ℕ → Elem → Value → RamFrame
 with_frame_value f i elem v = with_part f i elem (part_of (sum f.sizes) i) v
+
+-- what is seen of a place of the element type: the value last put there, else the zero of the type
+abbrev pub shown : Elem → Option Value → Value
+shown elem held = unwrap_or held (zero_by (elem_held elem))
+
+abbrev pub entry_value : Entry → ℕ → Option Value
+entry_value e i = unwrap_or (slice_get e.places i) None

@@ -1,6 +1,6 @@
 -- How a memory lies in a region of words.
 use Rattle.std.specs.Int.{w32, cast_signed}
-use Rattle.std.specs.Prelude.{◌≡◌, ℕ, ◌+◌, ◌*◌, ◌/◌, ◌^◌, ◌<◌, ◌≤◌, if◌then◌else◌, List, [], ◌∷◌, length, sum, Option, Some, slice_get, slice_index, Result, Ok, Err}
+use Rattle.std.specs.Prelude.{◌≡◌, ℕ, ◌+◌, ◌*◌, ◌/◌, ◌^◌, ◌<◌, ◌≤◌, if◌then◌else◌, List, [], ◌∷◌, length, sum, Some, slice_get, slice_index, Result, Ok, Err}
 use Rattle.ram_words.specs.declared.frames.Hot.{Hot}
 use Rattle.ram_words.specs.Cells.{kept_at}
 use Rattle.ram_words.specs.Headers.{shape_at}

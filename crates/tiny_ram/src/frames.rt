@@ -33,7 +33,7 @@ fn end_of(words: &[u32], base: usize) -> usize
 
 /// Writes where a frame goes on into its header, so that it waits.
 #[inline(always)]
-fn put_waiting(words: &mut [u32], base: usize, hot: Hot)
+pub(crate) fn put_waiting(words: &mut [u32], base: usize, hot: Hot)
     requires { base ≤ 2 ^ 35 }
     ensures depth { base < length words.old → slice_index words.new base % 2 ^ 22 ≡ (hot.top - hot.stack) / 3 % 2 ^ 22 }
     ensures initialiser { base < length words.old → slice_index words.new base / 2 ^ 22 ≡ slice_index words.old base / 2 ^ 22 }

@@ -24,7 +24,7 @@ pub enum Layout {
 /// How the places of a thing of this shape lie: arrays and strings are packed, a static field is its cell, and everything
 /// else has a cell for each place.
 #[inline(always)]
-pub fn layout_for(shape: Shape) -> Layout
+pub(crate) fn layout_for(shape: Shape) -> Layout
     ensures { layout_in result ≡ layout_of shape }
 {
     match shape.what {
@@ -40,7 +40,7 @@ pub fn layout_for(shape: Shape) -> Layout
 
 /// Cells of so many places.
 #[inline(always)]
-pub fn cells(layout: Layout, count: u32) -> usize
+pub(crate) fn cells(layout: Layout, count: u32) -> usize
     ensures cells { result ≡ cells_in (layout_in layout) count }
     ensures small { result < 2 ^ 33 }
 {
@@ -53,7 +53,7 @@ pub fn cells(layout: Layout, count: u32) -> usize
 
 /// What the i-th place of the object at a word holds; none where nothing was put.
 #[inline(always)]
-pub fn place(words: &[u32], layout: Layout, at: usize, i: u32) -> Option<Value>
+pub(crate) fn place(words: &[u32], layout: Layout, at: usize, i: u32) -> Option<Value>
     requires { at ≤ 2 ^ 35 }
     ensures { result ≡ place_at (layout_in layout) words.now at i }
 {

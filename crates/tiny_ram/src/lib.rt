@@ -2,9 +2,11 @@
 #![tactic(auto)]
 
 pub mod frames;
+pub mod law;
 pub mod layout;
 pub mod making;
 pub mod memory;
+pub mod parts;
 pub mod places;
 
 pub use board_types::value::{RamPlace, Shape, Value};

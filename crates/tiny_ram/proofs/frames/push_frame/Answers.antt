@@ -1,4 +1,4 @@
-use Rattle.std.proofs.Common.{◌≡◌, ℕ, ◌+◌, ◌*◌, ◌≤◌, List, inr, subst, arith}
+use Rattle.std.proofs.Common.{subst, arith}
 use Rattle.ram_words.specs.Frames.{hot_at}
 use Rattle.tiny_ram.specs.Region.{Stacked}
 use Rattle.tiny_ram.proofs.Waits.{put_away, stacked_behind}

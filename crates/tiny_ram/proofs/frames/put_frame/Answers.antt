@@ -1,10 +1,9 @@
-use Rattle.std.proofs.Common.{◌≡◌, ℕ, ◌+◌, ◌*◌, ◌/◌, ◌%◌, ◌^◌, ◌<◌, ◌≤◌, List, [], length, Option, None, Some, inr, refl, sym, ap, ◌∙◌, arith, get_or}
+use Rattle.std.proofs.Common.{ℕ, ◌+◌, ◌*◌, ◌/◌, ◌%◌, ◌^◌, ◌<◌, ◌≤◌, List, [], length, Option, None, Some, inr, sym, ap, ◌∙◌, arith, get_or}
 use Rattle.std.specs.Prelude.{sum}
 use Rattle.std.specs.Int.{w32, cast_signed}
 use Rattle.std.proofs.lemmas.List.{length-replicate}
 use Rattle.board_types.specs.declared.value.Value.{Value}
 use Rattle.ram_words.specs.Cells.{kept_at}
-use Rattle.ram_words.specs.declared.frames.Hot.{Hot}
 use Rattle.ram_words.specs.Frames.{placed, hot_at}
 use Rattle.tiny_ram.proofs.Elsewhere.{Agree, part, kept_at-same}
 use Rattle.tiny_ram.proofs.Fresh.{replicated}

@@ -1,6 +1,6 @@
-use Rattle.std.proofs.Common.{◌≡◌, ℕ, ◌+◌, ◌*◌, ◌<◌, ◌≤◌, List, [], length, Some, inr, sym, ap, ◌∙◌, arith, get_or}
+use Rattle.std.proofs.Common.{ℕ, ◌+◌, ◌*◌, ◌<◌, ◌≤◌, List, [], length, Some, inr, sym, ap, ◌∙◌, arith, get_or}
 use Rattle.std.proofs.lemmas.List.{length-replicate}
-use Rattle.tiny_ram.specs.Things.{layout_of, fresh_place, cells_in, entry_cells, fresh}
+use Rattle.tiny_ram.specs.Things.{layout_of, fresh_place, cells_in}
 use Rattle.tiny_ram.proofs.Elsewhere.{Agree, some_cells}
 use Rattle.tiny_ram.proofs.Fresh.{fresh_at, tagless, made_shape, replicated}
 use Rattle.tiny_ram.proofs.making.put_thing.Goals as goal

@@ -1,7 +1,7 @@
 use Rattle.std.proofs.Common.{◌≡◌, ℕ, ◌+◌, ◌-◌, ◌*◌, List, ap, ◌∙◌, sym, arith}
 use Rattle.std.specs.Prelude.{sum}
 use Rattle.ram_words.specs.Frames.{sizes_at}
-use Rattle.tiny_ram.specs.Memory.{frame_cells, frames_cells}
+use Rattle.tiny_ram.specs.Memory.{frame_cells}
 use Rattle.tiny_ram.proofs.Waits.{Found, found, numbered}
 use Rattle.tiny_ram.proofs.memory.Ram.caller.Goals as goal
 

@@ -1,10 +1,9 @@
-use Rattle.std.proofs.Common.{◌≡◌, ℕ, ◌+◌, ◌*◌, ◌<◌, ◌≤◌, List, refl, sym, ap, ◌∙◌, subst, arith}
+use Rattle.std.proofs.Common.{◌≡◌, ℕ, ◌+◌, ◌*◌, ◌≤◌, List, refl, sym, ap, ◌∙◌, subst, arith}
 use Rattle.std.specs.Prelude.{sum}
 use Rattle.ram_words.specs.declared.frames.Hot.{Hot}
 use Rattle.ram_words.specs.Frames.{sizes_at, hot_at}
-use Rattle.tiny_ram.specs.Memory.{RamFrame, callers, frames_cells}
+use Rattle.tiny_ram.specs.Memory.{RamFrame, callers}
 use Rattle.tiny_ram.specs.Region.{Holds}
-use Rattle.tiny_ram.proofs.Stacks.{stacked-end}
 use Rattle.tiny_ram.proofs.Waits.{Left, left, none_left}
 use Rattle.tiny_ram.proofs.memory.Ram.end_frame.Goals as goal
 use Rattle.tiny_ram.proofs.memory.Ram.end_frame.Goals.{else-base-len-via-then-base-len+else-base-lt-MOST_WORDS, else-base-len-via-else-base-len}

@@ -1,9 +1,9 @@
-use Rattle.std.proofs.Common.{◌≡◌, ℕ, ◌+◌, ◌-◌, ◌*◌, ◌/◌, ◌<◌, ◌≤◌, List, ◌∷◌, length, inl, refl, sym, ap, ◌∙◌, subst, arith}
+use Rattle.std.proofs.Common.{◌≡◌, ℕ, ◌+◌, ◌-◌, ◌*◌, ◌≤◌, List, ◌∷◌, length, inl, refl, sym, ap, ◌∙◌, subst, arith}
 use Rattle.std.proofs.lemmas.List.{with_items_is}
 use Rattle.ram_words.specs.declared.frames.Hot.{Hot}
 use Rattle.ram_words.specs.Region.{SameBut}
 use Rattle.ram_words.specs.Frames.{hot_at}
-use Rattle.tiny_ram.specs.Memory.{heap_cells, frames_cells, frame_cells, fresh_frame, with_frame}
+use Rattle.tiny_ram.specs.Memory.{frames_cells, fresh_frame, with_frame}
 use Rattle.tiny_ram.specs.Region.{Stacked, Holds}
 use Rattle.tiny_ram.proofs.Elsewhere.{laid-same}
 use Rattle.tiny_ram.proofs.Stacks.{stacked-end}

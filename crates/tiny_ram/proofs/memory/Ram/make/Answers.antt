@@ -1,7 +1,7 @@
-use Rattle.std.proofs.Common.{◌≡◌, ℕ, ◌+◌, ◌-◌, ◌*◌, ◌/◌, ◌<◌, ◌≤◌, List, [], ◌∷◌, ◌++◌, length, inl, refl, sym, ap, ◌∙◌, subst, arith}
+use Rattle.std.proofs.Common.{◌≡◌, ℕ, ◌+◌, ◌*◌, ◌≤◌, List, [], ◌∷◌, ◌++◌, inl, refl, sym, ap, ◌∙◌, subst, arith}
 use Rattle.std.proofs.lemmas.List.{with_items_is}
 use Rattle.ram_words.specs.Region.{SameBut}
-use Rattle.tiny_ram.specs.Things.{entry_cells, fresh, cells_in, layout_of}
+use Rattle.tiny_ram.specs.Things.{entry_cells, fresh, cells_in}
 use Rattle.tiny_ram.specs.Memory.{heap_cells, frames_cells, with_entry}
 use Rattle.tiny_ram.specs.Region.{Lies, Holds}
 use Rattle.tiny_ram.proofs.Elsewhere.{laid-same}

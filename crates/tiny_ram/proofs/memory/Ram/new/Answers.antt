@@ -1,4 +1,4 @@
-use Rattle.std.proofs.Common.{◌≡◌, ℕ, ◌+◌, ◌*◌, List, length, refl, sym, ap, ◌∙◌, subst, arith}
+use Rattle.std.proofs.Common.{◌≡◌, ℕ, ◌*◌, List, length, refl, sym, ap, ◌∙◌, arith}
 use Rattle.ram_words.specs.declared.frames.Hot.{Hot}
 use Rattle.ram_words.specs.Frames.{hot_at}
 use Rattle.tiny_ram.proofs.memory.Ram.new.Goals as goal

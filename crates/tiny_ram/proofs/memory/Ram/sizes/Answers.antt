@@ -1,4 +1,4 @@
-use Rattle.std.proofs.Common.{◌≡◌, ℕ, List, ap, ◌∙◌}
+use Rattle.std.proofs.Common.{ℕ, List, ap, ◌∙◌}
 use Rattle.ram_words.specs.Frames.{sizes_at}
 use Rattle.tiny_ram.proofs.Waits.{Found, found}
 use Rattle.tiny_ram.proofs.memory.Ram.sizes.Goals as goal

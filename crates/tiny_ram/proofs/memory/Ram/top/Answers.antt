@@ -1,4 +1,4 @@
-use Rattle.std.proofs.Common.{◌≡◌, ℕ, ◌+◌, ◌*◌, ap, ◌∙◌, subst, sym, arith}
+use Rattle.std.proofs.Common.{◌≡◌, ◌+◌, ◌*◌, arith}
 use Rattle.tiny_ram.specs.Memory.{frames_cells}
 use Rattle.tiny_ram.proofs.Stacks.{stacked-end}
 use Rattle.tiny_ram.proofs.Waits.{numbered}
