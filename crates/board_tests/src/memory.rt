@@ -272,6 +272,24 @@ fn frames_wait_and_go_on(rt: HostRuntime) -> Result<(), Fail> {
         }),
         Value::Int(0)
     );
+    assert_eq!(rt;
+        (
+            ram.put_variable(2, Value::Ref(4)),
+            ram.put_variable(3, Value::Ref(4))
+        ),
+        (true, false)
+    );
+    assert_eq!(rt;
+        (ram.variable(2), ram.variable(1), ram.variable(3)),
+        (Some(Value::Ref(4)), None, None)
+    );
+    assert_eq!(rt;
+        (ram.push(Value::Long(-1)), ram.push(Value::Int(0))),
+        (true, false)
+    );
+    assert_eq!(rt; (ram.pop(), ram.pop()), (Some(Value::Long(-1)), None));
+    ram.go_to(-3);
+    assert_eq!(rt; ram.place(), -3);
     ram.end_frame();
     assert_eq!(rt; ram.top(), outer);
     for (index, want) in [(0, 5), (3, 77), (4, 2), (5, 1)] {

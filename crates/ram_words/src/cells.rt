@@ -5,7 +5,7 @@ ghost use Rattle.ram_words.specs.Region.{SameBut};
 ghost use Rattle.ram_words.specs.Cells.{value_by, kept_at};
 
 use crate::elems::{elem_of, number_of, row_of, word_of};
-use crate::region::{put_word, word};
+use crate::region::word;
 use board_types::value::{RamPlace, Value};
 
 /// A value as its cell has it.
@@ -99,18 +99,18 @@ pub fn kept(words: &[u32], at: usize) -> Option<Value>
     )
 }
 
-/// Puts a value into the cell that begins at a word. What the place says of itself stays.
+/// Puts a value into the cell that begins at a word, where it is inside. What the place says of itself stays.
 #[inline(always)]
 #[tactic(auto, unfolding(crate::specs::Cells::kept_at))]
 pub fn put_kept(words: &mut [u32], at: usize, value: Value)
-    requires { at ≤ 2 ^ 40 }
     ensures here { at + 3 ≤ length words.old → kept_at words.new at ≡ Some value }
     ensures what { slice_index words.new at / 2 ^ 24 ≡ slice_index words.old at / 2 ^ 24 }
     ensures outside { SameBut at (at + 3) words.old words.new }
 {
     let cell = code_of(value);
-    let head = word(words, at);
-    put_word(words, at, retagged(head, cell.tag, cell.elem));
-    put_word(words, at + 1, cell.low);
-    put_word(words, at + 2, cell.high);
+    if at < words.len() && words.len() - at >= 3 {
+        words[at] = retagged(words[at], cell.tag, cell.elem);
+        words[at + 1] = cell.low;
+        words[at + 2] = cell.high;
+    }
 }

@@ -4,6 +4,7 @@
 pub mod answer;
 pub mod fits;
 pub mod ints;
+pub mod law;
 pub mod longs;
 pub mod operators;
 

@@ -6,3 +6,4 @@ pub mod Waits
 pub mod Puts
 pub mod Rooms
 pub mod Kept
+pub mod Tops

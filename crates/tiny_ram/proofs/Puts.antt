@@ -192,7 +192,7 @@ pub same_cells : (f : RamFrame) (i : ℕ) (elem : Elem) (p : Part) (v : Value) �
 same_cells f i elem p v = ap (λ (z : List ℕ). 2 + sum z) (same_sizes f i elem p v)
 
 -- the innermost frame gives way to another of its size, by a write inside it
-first_put :
+pub first_put :
     (ws us : List ℕ) (end low a : ℕ) (h : Hot) (x f g : RamFrame) (xs : List RamFrame)
     → Stacked ws end (low + 3 * frame_cells x) (hot_at ws (low + 3 * frame_cells x)) xs → a ≡ low → x ≡ f → frame_cells g ≡ frame_cells f
     → SameBut a (a + 3 * frame_cells f) ws us → Stands us a h g

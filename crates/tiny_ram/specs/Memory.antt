@@ -154,3 +154,29 @@ shown elem held = unwrap_or held (zero_by (elem_held elem))
 
 abbrev pub entry_value : Entry → ℕ → Option Value
 entry_value e i = unwrap_or (slice_get e.places i) None
+
+-- ---- the innermost frame
+
+abbrev pub with_frames : Memory → List RamFrame → Memory
+with_frames m fs = record m { frames = fs }
+
+-- how many arguments and locals a frame has
+abbrev pub variables : RamFrame → ℕ
+variables f = slice_index f.sizes 0 + slice_index f.sizes 1
+
+-- what an argument or a local holds; none where there is no such place
+abbrev pub variable_value : RamFrame → ℕ → Option Value
+variable_value f n = if nat_lt n (variables f) then unwrap_or (slice_get f.places n) None else None
+
+abbrev pub with_variable : RamFrame → ℕ → Value → RamFrame
+with_variable f n v = record f { places = slice_set f.places n (Some v) }
+
+-- the topmost value; none on an empty stack
+abbrev pub top_value : RamFrame → Option Value
+top_value f = if f.depth == 0 then None else unwrap_or (slice_get f.places (variables f + (f.depth - 1))) None
+
+abbrev pub popped : RamFrame → RamFrame
+popped f = record f { depth = f.depth - 1 }
+
+abbrev pub pushed : RamFrame → Value → RamFrame
+pushed f v = record f { places = slice_set f.places (variables f + f.depth) (Some v); depth = f.depth + 1 }

@@ -1,12 +1,12 @@
 -- How a memory lies in a region of words.
 use Rattle.std.specs.Int.{w32, cast_signed}
-use Rattle.std.specs.Prelude.{◌≡◌, ℕ, ◌+◌, ◌*◌, ◌/◌, ◌^◌, ◌<◌, ◌≤◌, if◌then◌else◌, List, [], ◌∷◌, length, sum, Some, slice_get, slice_index, Result, Ok, Err}
+use Rattle.std.specs.Prelude.{◌≡◌, ℕ, ◌+◌, ◌*◌, ◌/◌, ◌^◌, ◌<◌, ◌≤◌, Bool, true, false, if◌then◌else◌, List, [], ◌∷◌, length, sum, Some, slice_get, slice_index, Result, Ok, Err}
 use Rattle.ram_words.specs.declared.frames.Hot.{Hot}
 use Rattle.ram_words.specs.Cells.{kept_at}
 use Rattle.ram_words.specs.Headers.{shape_at}
 use Rattle.ram_words.specs.Frames.{sizes_at, method_at, placed, hot_at}
 use Rattle.tiny_ram.specs.Things.{Entry, entry_cells, layout_of, place_at}
-use Rattle.tiny_ram.specs.Memory.{RamFrame, Memory, heap_cells, frame_cells, used, with_entry, with_frame, innermost}
+use Rattle.tiny_ram.specs.Memory.{RamFrame, Memory, heap_cells, frame_cells, used, with_entry, with_frame, with_frames, innermost}
 use Rattle.tiny_ram.specs.declared.memory.Ram.{Ram}
 use Rattle.tiny_ram.specs.declared.memory.Spent.{Spent}
 
@@ -60,3 +60,8 @@ Made r u m e (Err s) = (m.room < used m + entry_cells e) × (u ≡ r)
 abbrev pub MadeFrame : Ram → Ram → Memory → RamFrame → Result ℕ Spent → Type 0
 MadeFrame r u m f (Ok thing) = (used m + frame_cells f ≤ m.room) × (thing ≡ innermost m.room (f ∷ m.frames)) × Keeps u (with_frame m f)
 MadeFrame r u m f (Err s) = (m.room < used m + frame_cells f) × (u ≡ r)
+
+-- the innermost frame gives way to another where something was done, else nothing has changed
+abbrev pub Done : Ram → Ram → Memory → RamFrame → List RamFrame → Bool → Type 0
+Done r u m g fs true = Keeps u (with_frames m (g ∷ fs))
+Done r u m g fs false = u ≡ r

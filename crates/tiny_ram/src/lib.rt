@@ -2,6 +2,7 @@
 #![tactic(auto)]
 
 pub mod frames;
+pub mod innermost;
 pub mod law;
 pub mod layout;
 pub mod making;
