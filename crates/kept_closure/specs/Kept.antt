@@ -1,5 +1,5 @@
 -- Which rows of a set of assemblies are kept: a closed set of rows, and the least one.
-use Rattle.std.specs.Prelude.{codes, ◌≡◌, ℕ, pos, ◌+◌, unsigned_abs, Bool, ◌&&◌, true, false, List, Some, slice_get}
+use Rattle.std.specs.Prelude.{codes, ◌≡◌, ℕ, pos, ◌+◌, unsigned_abs, Bool, ◌&&◌, true, false, List, ◌∷◌, Some, slice_get}
 use Rattle.std.specs.List.{position}
 use Rattle.plain_types.specs.declared.elem.Elem.{Elem}
 use Rattle.board_types.specs.declared.board.Known.{Known}
@@ -8,7 +8,7 @@ use Rattle.machine.specs.Program.{Body, NativeName}
 use Rattle.machine.specs.Texts.{same_text}
 use Rattle.machine_rename.specs.Rename.{by_instructions, throws}
 use Rattle.classes.specs.Classes.{FieldKind, OwnMethod, Classes}
-use Rattle.classes.specs.Queries.{methods_of, nearest, own_virtual, first_some, chain, is_interface, is_instance_kind, is_or_implements, library_class, basic_name, known_name}
+use Rattle.classes.specs.Queries.{methods_of, own_virtual, first_some, chain, is_interface, is_instance_kind, is_or_implements, library_class, basic_name, known_name}
 use Rattle.assemblies.specs.Rows.{TypeToken, TypeDef, TypeRef, TypeSpec, MemberToken, Own, Reference, Scope, OfAssembly, Inside, Nowhere, RawType, TypeRefRow, TypeRow, FieldRow, RawOperand, RawTargets, RawLine, RawClause, RawCode, MethodRow, Assembly}
 use Rattle.assemblies.specs.Binding.{resolve_ref, resolve, resolve_method, resolve_field, method_owner, holds, range, classes_of}
 use Rattle.assemblies.specs.Chosen.{Choice}
@@ -78,11 +78,13 @@ module _ (size : ℕ) (ps : List Assembly) where
   Lists c m = (i : ℕ) × (slice_get (methods_of high c) i ≡ Some m)
 
   -- a class's virtual method without newslot takes the slot of the nearest inherited one of equal name and signature (II.10.3.1)
-  pub record Overrides (c : Id) (m inherited : OwnMethod) : Type 0 where
+  pub record Overrides (c : Id) (up : List Id) (m inherited : OwnMethod) : Type 0 where
     pub own : Lists c m
     pub is_virtual : m.is_virtual ≡ true
     pub takes : m.is_newslot ≡ false
-    pub nearest : nearest high m c ≡ Some inherited
+    -- of the classes above
+    pub above : chain high c ≡ c ∷ up
+    pub nearest : first_some (own_virtual high m) up ≡ Some inherited
 
   -- in a class that implements an interface, the body of a method of it: the first virtual one of its name and signature upwards (II.12.2)
   pub record Fills (c i d : Id) (m body : OwnMethod) : Type 0 where
@@ -130,8 +132,8 @@ module _ (size : ℕ) (ps : List Assembly) where
     -- a native the classes of exceptions that it throws
     pub thrown : (f n : ℕ) (p : Assembly) (m : MethodRow) (name : NativeName) (k : Known) (c : Id) → Stands ps (λ q. q.methods) f n p m → (keep f).methods n ≡ true → m.body ≡ Body.Native name → throws name k ≡ true → library_class high (known_name k) ≡ Some c → KeepsType keep c
     -- a virtual method whose type is kept is kept where the one is whose slot it takes, and then that one is kept with it
-    pub takes_slot : (c : Id) (m u : OwnMethod) → Overrides c m u → KeepsType keep c → KeepsMethod keep u.id → KeepsMethod keep m.id
-    pub slot_taken : (c : Id) (m u : OwnMethod) → Overrides c m u → KeepsMethod keep m.id → KeepsMethod keep u.id
+    pub takes_slot : (c : Id) (up : List Id) (m u : OwnMethod) → Overrides c up m u → KeepsType keep c → KeepsMethod keep u.id → KeepsMethod keep m.id
+    pub slot_taken : (c : Id) (up : List Id) (m u : OwnMethod) → Overrides c up m u → KeepsMethod keep m.id → KeepsMethod keep u.id
     -- and where the interface method is that it fills
     pub fills : (c i d : Id) (m body : OwnMethod) → Fills c i d m body → KeepsType keep d → KeepsMethod keep m.id → KeepsMethod keep body.id
 
