@@ -60,7 +60,7 @@ module _ (r : Renaming) (kept : Kept) where
     -- a virtual method without newslot is kept exactly where the nearest inherited one of its name and signature is
     pub slots : (m : OwnMethod) (c : Id) (y u : OwnMethod) (up : List Id) → chain high (r.type c) ≡ r.type c ∷ up → own_virtual high m (r.type c) ≡ Some y → y.is_newslot ≡ false → first_some (own_virtual high m) up ≡ Some u → kept.method y.id ≡ kept.method u.id
     -- a virtual method is kept where it fills a kept method of an interface
-    pub fills : (m : OwnMethod) (c i : Id) (y : OwnMethod) → kept.method m.id ≡ true → is_interface high (r.type i) ≡ true → is_interface high (r.type c) ≡ false → is_or_implements high (r.type c) (r.type i) ≡ true → first_some (own_virtual high m) (chain high (r.type c)) ≡ Some y → kept.method y.id ≡ true
+    pub fills : (m : OwnMethod) (c i : Id) (y : OwnMethod) → high.method_owner m.id ≡ Some (r.type i) → method_at high m.id ≡ Some m → kept.method m.id ≡ true → is_interface high (r.type i) ≡ true → is_interface high (r.type c) ≡ false → is_or_implements high (r.type c) (r.type i) ≡ true → first_some (own_virtual high m) (chain high (r.type c)) ≡ Some y → kept.method y.id ≡ true
     pub basic : (e : Elem) → basic high e ≡ option_map r.type (basic low e)
     pub array : array high ≡ option_map r.type (array low)
     pub exception : exception_class high ≡ option_map r.type (exception_class low)

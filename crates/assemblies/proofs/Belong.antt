@@ -55,7 +55,7 @@ module _ (k : ℕ) (ps : List Assembly) where
     pub is_row : slice_get assembly.methods (type.first_method + i) ≡ Some row
     pub is : own_method k ps c.file (type.first_method + i) row ≡ m
 
-  listed : (c : Id) (i : ℕ) (m : OwnMethod) → slice_get (methods_of (classes_of k ps) c) i ≡ Some m → Listed c i m
+  pub listed : (c : Id) (i : ℕ) (m : OwnMethod) → slice_get (methods_of (classes_of k ps) c) i ≡ Some m → Listed c i m
   listed c i m e = by (slice_get ps c.file) refl e
     where
       of_type : (p : Assembly) → slice_get ps c.file ≡ Some p → (o : Option TypeRow) → slice_get p.types c.row ≡ o → slice_get (unwrap_or (option_map (λ (z : Class). z.methods) (option_map (class_with k ps c.file p) o)) []) i ≡ Some m → Listed c i m

@@ -169,7 +169,7 @@ module _ (size more : ℕ) (keep : ℕ → Choice) (ps : List Assembly) (j : Joi
         firsts = λ m c x e f v. j.firsts (r.method m) (r.type c) x (method_owner_law keep ps size more j.closed j.grows m ∙ ap (option_map r.type) e) f v;
         alone = λ m c y e k. j.alone m (r.type c) y e k;
         slots = λ m c y u up way e n near. let w = has_class m (r.type c) y e in j.slots m (r.type c) y u up (real_type c w.0 w.1) way e n near;
-        fills = λ m c i y k h s g e. let w = has_first m (r.type c) y e in j.fills m (r.type c) (r.type i) y (real_type c w.0 w.1) k h s g e;
+        fills = λ m c i y o f k h s g e. let w = has_first m (r.type c) y e in j.fills m (r.type c) (r.type i) y (real_type c w.0 w.1) o f k h s g e;
         basic = basic_law;
         array = class_law (codes "Array") j.array;
         exception = class_law (codes "Exception") j.exception;

@@ -33,7 +33,7 @@ module _ (size more : ℕ) (keep : ℕ → Choice) (ps : List Assembly) where
     -- of kept types: a virtual method without newslot is kept exactly where the nearest inherited one of its name and signature is
     pub slots : (m : OwnMethod) (c : Id) (y u : OwnMethod) (up : List Id) → (keep c.file).types c.row ≡ true → chain high c ≡ c ∷ up → own_virtual high m c ≡ Some y → y.is_newslot ≡ false → first_some (own_virtual high m) up ≡ Some u → kept_method y ≡ kept_method u
     -- and one is kept where it fills a kept method of an interface
-    pub fills : (m : OwnMethod) (c i : Id) (y : OwnMethod) → (keep c.file).types c.row ≡ true → kept_method m ≡ true → is_interface high i ≡ true → is_interface high c ≡ false → is_or_implements high c i ≡ true → first_some (own_virtual high m) (chain high c) ≡ Some y → kept_method y ≡ true
+    pub fills : (m : OwnMethod) (c i : Id) (y : OwnMethod) → (keep c.file).types c.row ≡ true → method_owner ps m.id ≡ Some i → method_at high m.id ≡ Some m → kept_method m ≡ true → is_interface high i ≡ true → is_interface high c ≡ false → is_or_implements high c i ≡ true → first_some (own_virtual high m) (chain high c) ≡ Some y → kept_method y ≡ true
     -- the classes that the machine needs by name
     pub basics : (e : Elem) (name : List ℕ) (c : Id) → basic_name e ≡ Some name → library_class high name ≡ Some c → (keep c.file).types c.row ≡ true
     pub array : (c : Id) → library_class high (codes "Array") ≡ Some c → (keep c.file).types c.row ≡ true

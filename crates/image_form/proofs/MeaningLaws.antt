@@ -95,10 +95,10 @@ module _ (table : ℕ → Option Row) (l : Length) (m : Meaning) (w : Words) whe
 
 -- ---- an instruction's size is the number of its bytes
 
-number_size : (k n : ℕ) (rest : List ℕ) → length (number_onto k n rest) ≡ suc k + length rest
+pub number_size : (k n : ℕ) (rest : List ℕ) → length (number_onto k n rest) ≡ suc k + length rest
 number_size zero n rest = omega arith
 number_size (suc k) n rest = omega (arith, number_size k (n / 256) rest)
 
-all_size : (w : Width) (zs : List ℤ) (rest : List ℕ) → length (all_onto (signed_onto w) zs rest) ≡ bytes_for (behind_first w) zs + length rest
+pub all_size : (w : Width) (zs : List ℤ) (rest : List ℕ) → length (all_onto (signed_onto w) zs rest) ≡ bytes_for (behind_first w) zs + length rest
 all_size w [] rest = omega arith
 all_size w (z ∷ zs) rest = omega (arith, number_size (behind_first w) (cast_unsigned w z) (all_onto (signed_onto w) zs rest), all_size w zs rest)

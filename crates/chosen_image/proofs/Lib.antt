@@ -1,0 +1,4 @@
+pub mod PlaceLaws
+pub mod ClauseLaws
+pub mod LineLaws
+pub mod RowsSpelt

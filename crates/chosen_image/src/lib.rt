@@ -1,0 +1,4 @@
+//! The image of a closed choice of an accepted set's rows is read as that choice.
+#![tactic(auto)]
+
+pub mod law;

@@ -1,0 +1,4 @@
+//! Which rows of a set of assemblies are kept, and what a closed choice of them holds together.
+#![tactic(auto)]
+
+pub mod law;
