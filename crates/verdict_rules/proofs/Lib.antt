@@ -1,0 +1,7 @@
+mod Kept
+mod Rows
+mod Signatures
+mod Keeps
+mod Listing
+mod Codes
+pub mod VerdictLaws

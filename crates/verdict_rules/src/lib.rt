@@ -1,0 +1,4 @@
+//! The verdict on a set of files, and that accepted programs never stick.
+#![tactic(auto)]
+
+pub mod law;
