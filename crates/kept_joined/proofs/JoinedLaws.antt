@@ -8,20 +8,20 @@ use Rattle.board_types.specs.declared.board.Known.{Known}
 use Rattle.machine.specs.Data.{Id, id_eq}
 use Rattle.machine.specs.Program.{Method}
 use Rattle.machine.specs.Throw.{on_some}
-use Rattle.machine_rename.specs.Rename.{Asked, Thrower}
+use Rattle.machine_rename.specs.Rename.{Thrower}
 use Rattle.classes.specs.Classes.{Signature, OwnMethod, Class, Classes}
 use Rattle.classes.specs.Queries.{superclass_of, chain, chain_within, first_some, own_virtual, is_virtual_named, methods_of, method_at, is_interface, is_or_implements, known_name, library_class}
 use Rattle.classes.specs.Listed.{method_with, no_code, program_of}
 use Rattle.kept_rows.specs.Select.{select}
-use Rattle.assemblies.specs.Rows.{TypeToken, TypeRow, MethodRow, Assembly}
+use Rattle.assemblies.specs.Rows.{MethodRow, Assembly}
 use Rattle.assemblies.specs.Binding.{numbered, resolve, class_with, class_at, method_owner, classes_of, code_of, sources_of}
 use Rattle.assemblies.specs.Chosen.{Choice, method_row_to, chosen, chosen_set}
 use Rattle.assemblies.specs.Closed.{Closed}
 use Rattle.assemblies.specs.Joined.{Joined}
 use Rattle.assemblies.proofs.Binds.{on_some_back, map_back, chosen_at, token_there}
-use Rattle.assemblies.proofs.Belong.{Listed, listed, owner}
+use Rattle.assemblies.proofs.Belong.{listed, owner}
 use Rattle.assemblies.proofs.Numbered.{get_numbered}
-use Rattle.kept_closure.specs.Kept.{HasAll, KeepsType, KeepsMethod, Overrides, Fills, IsClosed, Resolves, PlacesLead}
+use Rattle.kept_closure.specs.Kept.{HasAll, KeepsType, Overrides, Fills, IsClosed, Resolves, PlacesLead}
 use Rattle.kept_closure.proofs.ClosedLaws.{closed_law}
 use Rattle.kept_joined.specs.Judged.{Judged, PlacesRise}
 use Rattle.kept_joined.proofs.Named.{virtual_same, search_same, find_index, first_index, first_of_name, alone_of_name}
