@@ -5,3 +5,6 @@ mod Keeps
 mod Listing
 mod Codes
 pub mod VerdictLaws
+mod Samples
+mod CodeSamples
+mod AcceptedSample

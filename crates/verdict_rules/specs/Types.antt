@@ -1,4 +1,4 @@
--- Rules 20 to 26: generic rows, overridings by name, assembly names, the entry, superclasses, interfaces, value types.
+-- Rules 20 to 26: generic rows, explicit overridings, assembly names, the entry, superclasses, interfaces, value types.
 use Rattle.std.specs.Prelude.{ℕ, suc, ◌/◌, ◌%◌, ◌==◌, nat_le, Bool, true, false, not, ◌&&◌, List, [], ◌∷◌, take, drop, length, slice_get, slice_index, Option, Some, None, is_some}
 use Rattle.std.specs.List.{list_any}
 use Rattle.file_tables.specs.declared.schema.Coded.TheVariants.{TypeDefOrRef}
