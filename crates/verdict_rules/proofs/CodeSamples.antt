@@ -74,4 +74,3 @@ an_opcode_of_floats = refl
 two_depths_at_one_place : code_of join ≡ Some (refused 52 2 6 1 5)
 unfolding string_at before_zero is_utf8 chars columns_of strings_heap blobs_heap rows_from library_of with_item body_bytes code_from label_from token_from rows_of lib.Utf8.encode mscorlib_items native_items object_items helper_items small_number_items wide_number_items string_items text_items builder_items exception_items fault_items refusal_items interface_items list_items enumerator_items tag_bits_of tables_of compressed_at blob_at counted element_of number_at count_at token_at name_at element_at bracketed_at type_at pointer_at parameter_at result_at slots_at whole_type whole_field whole_spec whole_locals whole_method type_token scope_of method_token field_token field_signature method_signature spec_signature locals_signature kind_of data_of body_of_native assemblies_of texts_heap content headers cli_header root widths all_spelled stream_by metadata_by file_by built text_end u16_at u32_at u64_at holds section_of place_of tiny_body clauses_behind fat_body body_at opcode_at operand_at operand_len whole_len instruction_at target_at clause_at section_at sections_within sections_of walk_within walk_from lines_of body_part units_of user_string_at named code_fault profile verdict
 two_depths_at_one_place = refl
-
