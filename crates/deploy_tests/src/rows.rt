@@ -170,24 +170,44 @@ fn sets_go_to_the_other_bank(rt: HostRuntime) -> Result<(), Fail> {
     Ok(())
 }
 
-/// The power stops in each operation, and each request comes twice.
+/// A deployment that stops in an operation, by each mask, and then the same one without a stop.
+fn stops(
+    rt: &impl Abort,
+    alloc: Global,
+    start: &[u8],
+    new: &[u8],
+    operation: u32,
+    wanted: Ending,
+) -> Result<(), Fail>
+    requires { length new.now ≤ 122864 }
+{
+    for mask in MASKS {
+        let ending = stop_and_again(rt, alloc, start, new, operation, mask)?;
+        assert!(rt; ending == wanted);
+    }
+    Ok(())
+}
+
+/// The power stops in each operation, by each mask, and each request comes twice.
 #[test]
 fn each_operation_stops(rt: HostRuntime) -> Result<(), Fail> {
     let new = set(rt.alloc(), b'b', 2500)?;
     for (start, _, _, operations) in STARTS {
         let content = content(rt.alloc(), start)?;
         for operation in 1..=22 {
-            let mask = MASKS[(operation + operations) as usize % 7];
-            let ending = stop_and_again(
+            let wanted = if operation <= operations {
+                Ending::Off
+            } else {
+                Ending::Deployed
+            };
+            stops(
                 &rt,
                 rt.alloc(),
                 content.as_slice(),
                 new.as_slice(),
                 operation,
-                mask,
+                wanted,
             )?;
-            let stops = operation <= operations;
-            assert!(rt; ending == if stops { Ending::Off } else { Ending::Deployed });
         }
     }
     Ok(())
@@ -263,22 +283,44 @@ fn each_mask_leaves_a_set(rt: HostRuntime) -> Result<(), Fail> {
     Ok(())
 }
 
-/// An operation fails, by each mask; the tool asks nothing more, and a later session deploys.
+/// A deployment whose operation of this number fails, by each mask; the tool asks nothing more, and a later session
+/// deploys.
+fn fails_by_masks(
+    rt: &impl Abort,
+    alloc: Global,
+    start: &[u8],
+    new: &[u8],
+    operation: u32,
+) -> Result<(), Fail>
+    requires { length new.now ≤ 122864 }
+{
+    for mask in MASKS {
+        let fails = vec![in alloc; operation; 1]?;
+        let mut board = flash(rt, alloc, start, fails, 80)?;
+        let before = found(rt, &board);
+        assert!(rt; !mask.is_empty() && mask.len() <= 8192);
+        board.fail_mask(Vec::from_slice(alloc, mask)?);
+        assert!(rt; deploy(&mut board, new, 2) == Ending::Failed);
+        assert!(rt; is_safe(found(rt, &board), before, new));
+        assert!(rt; deploy(&mut board, new, 1) == Ending::Deployed);
+    }
+    Ok(())
+}
+
+/// Each operation fails, by each mask.
 #[test]
 fn each_operation_fails(rt: HostRuntime) -> Result<(), Fail> {
     let new = set(rt.alloc(), b'b', 2500)?;
     for (start, _, _, operations) in STARTS {
         let content = content(rt.alloc(), start)?;
         for operation in 1..=operations {
-            let fails = vec![in rt.alloc(); operation; 1]?;
-            let mut board = flash(&rt, rt.alloc(), content.as_slice(), fails, 80)?;
-            let before = found(&rt, &board);
-            let mask = MASKS[operation as usize % 7];
-            assert!(rt; !mask.is_empty() && mask.len() <= 8192);
-            board.fail_mask(Vec::from_slice(rt.alloc(), mask)?);
-            assert!(rt; deploy(&mut board, new.as_slice(), 2) == Ending::Failed);
-            assert!(rt; is_safe(found(&rt, &board), before, new.as_slice()));
-            assert!(rt; deploy(&mut board, new.as_slice(), 1) == Ending::Deployed);
+            fails_by_masks(
+                &rt,
+                rt.alloc(),
+                content.as_slice(),
+                new.as_slice(),
+                operation,
+            )?;
         }
     }
     Ok(())
