@@ -13,6 +13,7 @@ use Rattle.cil_sig.specs.declared.sig.MethodSig.{MethodSig}
 use Rattle.cil_sig.specs.Reading.{Part, whole_field, whole_method, whole_locals, whole_spec}
 use Rattle.cil_sig.specs.Places.{place_of}
 use Rattle.machine.specs.Data.{Id}
+use Rattle.machine.specs.Program.{Code}
 use Rattle.machine.specs.Throw.{on_some}
 use Rattle.classes.specs.Classes.{Class, OwnField, OwnMethod, Reference}
 use Rattle.classes.specs.Classes.{SigType as NamedType}
@@ -185,8 +186,12 @@ abbrev pub in_owner : {A : Type 0} → World → FilePart → OwnMethod → (Id 
 in_owner w x m of_owner =
     unwrap_or (on_some ((classes_of w).method_owner m.id) (λ c. option_map (of_owner c) ((classes_of w).class c))) (of_owner (no_type m.id.file x) no_class)
 
+-- an internal call stands for a body, whichever it is: that each is a native is asked of the library's files as a whole
+abbrev pub with_body : List ℕ → OwnMethod → OwnMethod
+with_body row m = if is_internal row then record m { body = Code } else m
+
 abbrev pub method_well : World → FilePart → List ℕ → OwnMethod → Bool
-method_well w x row m = is_plain_method m.id.file row && in_owner w x m (λ c k. method_stands_well (classes_of w) c k m)
+method_well w x row m = is_plain_method m.id.file row && in_owner w x m (λ c k. method_stands_well (classes_of w) c k (with_body row m))
 
 -- 30: no earlier method of its type has the name and the signature
 abbrev pub is_before_method : OwnMethod → OwnMethod → Bool
