@@ -9,3 +9,4 @@ pub mod Scans
 pub mod Plans
 pub mod Lands
 pub mod Throws
+pub mod Made

@@ -7,6 +7,7 @@
 
 pub mod clauses;
 mod frames;
+pub mod law;
 pub mod unwinding;
 
 pub use board_types::subclass::Subclass;
