@@ -10,3 +10,5 @@ pub mod Plans
 pub mod Lands
 pub mod Throws
 pub mod Made
+pub mod Leaves
+pub mod Holding
