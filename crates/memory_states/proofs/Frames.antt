@@ -1,6 +1,6 @@
 -- A frame that changes, beside the machine's.
 use Rattle.std.specs.Int.{w32, cast_signed}
-use Rattle.std.proofs.Common.{◌≡◌, ◌≢◌, inl, inr, ⊎_elim, ℕ, ℤ, zero, suc, pos, ◌+◌, ◌-◌, ◌^◌, ◌<◌, ◌≤◌, Bool, true, false, ◌==◌, List, [], ◌∷◌, length, Option, Some, None, refl, sym, ap, ◌∙◌, subst, arith}
+use Rattle.std.proofs.Common.{◌≡◌, ◌≢◌, inl, inr, ℕ, ℤ, zero, suc, ◌+◌, ◌-◌, ◌^◌, ◌<◌, Bool, true, false, ◌==◌, List, [], ◌∷◌, length, Option, Some, None, refl, sym, ap, ◌∙◌, subst, arith}
 use Rattle.std.specs.Prelude.{◌⊎◌, nat_eq, if◌then◌else◌, slice_get, slice_set, slice_index, unwrap_or}
 use Rattle.std.proofs.lemmas.Bool.Decides.{eqb_tells}
 use Rattle.std.proofs.lemmas.List.{length-set}
@@ -8,8 +8,8 @@ use Rattle.std.proofs.lemmas.Option.{slice_get_within}
 use Rattle.board_types.specs.declared.value.RamPlace.{RamPlace}
 use Rattle.board_types.specs.declared.value.Value.{Value as RamValue}
 use Rattle.board_types.specs.declared.value.Value.TheVariants as ram
-use Rattle.machine.specs.Data.{Id, PlaceType, Spot, InArgument, InLocal, InObject, Value, Int, Long, Null, Object, Handle, Pointer, Thing, Slot, Frame}
-use Rattle.machine.specs.Program.{Program, Method}
+use Rattle.machine.specs.Data.{Id, Spot, InArgument, InLocal, InObject, Value, Int, Long, Null, Object, Handle, Pointer, Thing, Slot, Frame}
+use Rattle.machine.specs.Program.{Program}
 use Rattle.machine.specs.Numbers.{zero_place}
 use Rattle.tiny_ram.specs.Memory.{RamFrame, innermost, frame_at, variables, pushed}
 use Rattle.memory_states.specs.Values.{IsLocal, IsSpot, IsValue, IsHeld}

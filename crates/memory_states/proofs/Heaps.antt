@@ -1,26 +1,25 @@
 -- Objects of a memory and the machine's, side by side.
-use Rattle.std.proofs.Common.{◌≡◌, ◌≢◌, inl, inr, ℕ, zero, suc, ◌+◌, ◌-◌, ◌*◌, ◌/◌, ◌<◌, ◌≤◌, Bool, true, false, ◌==◌, List, [], ◌∷◌, ◌++◌, map, length, replicate, Option, Some, None, refl, sym, ap, ◌∙◌, subst, arith}
+use Rattle.std.proofs.Common.{◌≡◌, ◌≢◌, inl, inr, ℕ, zero, suc, ◌+◌, ◌-◌, ◌*◌, ◌/◌, Bool, true, false, ◌==◌, List, [], ◌∷◌, ◌++◌, map, length, replicate, Option, Some, None, refl, sym, ap, ◌∙◌, subst, arith}
 use Rattle.std.specs.Prelude.{◌⊎◌, nat_eq, if◌then◌else◌, nat_lt, sum}
 use Rattle.std.proofs.lemmas.Bool.Decides.{eqb_tells}
-use Rattle.std.specs.Option.{option_map}
 use Rattle.plain_types.specs.declared.elem.Elem.{Elem}
 use Rattle.plain_types.specs.declared.elem.Elem.TheVariants as elem
 use Rattle.board_types.specs.declared.board.TypeAt.{TypeAt}
 use Rattle.board_types.specs.declared.board.BoardType.{BoardType}
 use Rattle.board_types.specs.declared.board.TheConstants.{NO_ROW}
 use Rattle.board_types.specs.declared.value.Shape.{Shape}
-use Rattle.machine.specs.Data.{Id, CliType, Basic, EnumOf, Cell, Refers, cell_of, elem_cell, element_bytes, thing_size, end_of, thing_at, Value, Thing, Instance, Text, Elements, Boxed, StaticCell, Slot, Nothing, Caught, Throwing, Leaving, Frame, State}
+use Rattle.machine.specs.Data.{Id, CliType, Basic, EnumOf, Cell, Refers, cell_of, elem_cell, element_bytes, thing_size, end_of, thing_at, Thing, Instance, Text, Elements, Boxed, StaticCell, Slot, Nothing, Caught, Throwing, Leaving, Frame, State}
 use Rattle.machine.specs.Program.{Program, Method}
 use Rattle.machine.specs.Numbers.{zero_of}
 use Rattle.machine.specs.Throw.{on_some, thrown_class}
-use Rattle.machine.specs.Rows.{total, method_cells, frames_cells}
+use Rattle.machine.specs.Rows.{method_cells, frames_cells}
 use Rattle.machine.specs.Trace.{cells}
 use Rattle.ram_words.specs.Elements.{elem_held, type_held}
 use Rattle.tiny_ram.specs.Things.{Entry, entry_cells, layout_of, packed_by, cells_in, fresh, object_shape}
 use Rattle.board_types.specs.declared.value.Value.{Value as RamValue}
 use Rattle.tiny_ram.specs.Memory.{RamFrame, Memory, frame_cells, entry_at, heap_cells, used}
 use Rattle.tiny_ram.specs.Memory.{frames_cells as ram_cells}
-use Rattle.memory_states.specs.Values.{id_of, plain_type, in_brackets, cli_type, FieldsHeld, IsThing, IsInstance, AreThings}
+use Rattle.memory_states.specs.Values.{id_of, plain_type, in_brackets, cli_type, FieldsHeld, IsThing, AreThings}
 use Rattle.memory_states.specs.States.{slot_held, IsThrown, IsSlot, IsMachineFrame, AreFrames, StandsFor}
 
 not_zero : (n : ℕ) → (suc n == 0) ≡ false

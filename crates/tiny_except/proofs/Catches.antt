@@ -1,5 +1,5 @@
 -- A throw's parts together.
-use Rattle.std.proofs.Common.{◌≡◌, ◌≢◌, inl, inr, ℕ, suc, ◌+◌, ◌-◌, ◌<◌, ◌≤◌, Bool, true, false, ◌==◌, List, [], ◌∷◌, Option, Some, None, Ok, Err, refl, sym, ap, ◌∙◌, subst, arith}
+use Rattle.std.proofs.Common.{◌≡◌, ◌≢◌, inl, inr, ℕ, ◌+◌, ◌-◌, ◌<◌, ◌≤◌, Bool, true, false, ◌==◌, List, ◌∷◌, Option, Some, None, Ok, Err, refl, sym, ap, ◌∙◌, subst, arith}
 use Rattle.std.specs.Prelude.{nat_eq, ◌⊎◌, if◌then◌else◌, nat_le, slice_index, is_some, unwrap_or, Result}
 use Rattle.std.specs.Option.{option_map}
 use Rattle.std.proofs.lemmas.Bool.{le-leb}
@@ -17,7 +17,7 @@ use Rattle.tiny_except.specs.declared.unwinding.Thrown.{Thrown}
 use Rattle.tiny_except.specs.declared.unwinding.Thrown.TheVariants as thrown
 use Rattle.tiny_except.specs.declared.unwinding.Plan.{Plan}
 use Rattle.tiny_except.specs.declared.unwinding.Plan.TheVariants.{NoPlan, Throwing, GoingTo}
-use Rattle.tiny_except.specs.Unwinding.{fits, Landing, landing, stopped, class_in, thrown_object, with_thrown, After, at_stop, before_stop, caught, uncaught, thrown_after, slot_held, ended_in, ended_at, plan_by, plan_in, plan_at, class_or_none, taken_up, on_top, left_in}
+use Rattle.tiny_except.specs.Unwinding.{fits, Landing, landing, stopped, class_in, thrown_object, with_thrown, After, at_stop, caught, uncaught, thrown_after, slot_held, ended_in, ended_at, plan_by, plan_in, plan_at, class_or_none, taken_up, on_top, left_in}
 use Rattle.tiny_except.specs.Searches.{AllHaveSlots, Threw, TookUp, IsThere, Landed, Placed}
 use Rattle.tiny_except.proofs.Stops.{Fits, landing_fits}
 

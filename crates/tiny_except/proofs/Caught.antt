@@ -1,15 +1,12 @@
 -- The walk of the first pass.
-use Rattle.std.proofs.Common.{◌≡◌, ◌≢◌, ℕ, suc, ◌+◌, ◌*◌, ◌<◌, ◌≤◌, Bool, true, false, not, List, [], ◌∷◌, length, Option, Some, None, refl, sym, ap, ◌∙◌, subst, arith}
+use Rattle.std.proofs.Common.{◌≡◌, ◌≢◌, ℕ, suc, ◌+◌, ◌≤◌, Bool, true, false, not, List, ◌∷◌, length, None, refl, sym, ap, ◌∙◌, arith}
 use Rattle.std.specs.Prelude.{◌||◌, ◌&&◌, is_some}
 use Rattle.board_types.specs.declared.board.TypeAt.{TypeAt}
 use Rattle.tiny_ram.specs.Memory.{RamFrame, Memory, innermost, caller_of, IsFrame}
-use Rattle.tiny_ram.specs.Region.{Keeps}
-use Rattle.tiny_ram.specs.declared.memory.Ram.{Ram}
 use Rattle.memory_states.specs.Told.{Told}
-use Rattle.tiny_except.specs.declared.clauses.Found.{Found}
 use Rattle.tiny_except.specs.declared.clauses.Goal.TheVariants.{Catch}
 use Rattle.tiny_except.specs.Unwinding.{stop_in, fits}
-use Rattle.tiny_except.proofs.Walks.{from_frame, from_top, from_nothing, here, outwards, caller_is, Roomy, roomy}
+use Rattle.tiny_except.proofs.Walks.{from_frame, from_top, from_nothing, here, outwards, caller_is, Roomy}
 use Rattle.tiny_except.proofs.Tops.{First, first_of}
 
 -- from this frame on a catch is found where one is found at all

@@ -1,28 +1,22 @@
 -- A memory that stands for a state meets what the calls ask of it.
-use Rattle.std.proofs.Common.{◌≡◌, ℕ, ◌+◌, ◌^◌, ◌<◌, Bool, true, false, ◌==◌, List, [], ◌∷◌, length, Option, Some, None, refl, sym, ap, ◌∙◌, subst, arith, get_or}
-use Rattle.std.specs.Prelude.{if◌then◌else◌, slice_get, slice_index, unwrap_or, is_some}
-use Rattle.std.proofs.lemmas.Option.{slice_get_within, slice_get-get_or}
+use Rattle.std.proofs.Common.{◌≡◌, ℕ, ◌+◌, ◌^◌, ◌<◌, Bool, List, [], ◌∷◌, Option, Some, None, refl, sym, ap, ◌∙◌, subst}
+use Rattle.std.specs.Prelude.{slice_get}
 use Rattle.board_types.specs.declared.board.TypeAt.{TypeAt}
-use Rattle.board_types.specs.declared.value.Value.{Value as RamValue}
-use Rattle.board_types.specs.declared.value.Value.TheVariants.{Ref}
-use Rattle.machine.specs.Data.{Id, Slot, Nothing, Caught, Throwing, Leaving, Thing, Frame, State}
+use Rattle.machine.specs.Data.{Id, Thing, Frame, State}
 use Rattle.machine.specs.Program.{Program, Method}
 use Rattle.machine.specs.Throw.{leave, left, take_up}
 use Rattle.machine_rename.specs.Again.{Nested}
 use Rattle.tiny_ram.specs.Memory.{RamFrame, Memory}
 use Rattle.memory_states.specs.Told.{Told}
-use Rattle.memory_states.specs.Values.{id_of, AreThings}
-use Rattle.memory_states.specs.States.{Tells, IsThrown, IsSlot, IsMachineFrame, AreFrames, StandsFor}
+use Rattle.memory_states.specs.Values.{id_of}
+use Rattle.memory_states.specs.States.{Tells, IsThrown, IsMachineFrame, AreFrames, StandsFor}
 use Rattle.memory_states.proofs.Frames.{stack_size, slot_size}
 use Rattle.tiny_except.specs.declared.clauses.Found.{Found}
-use Rattle.tiny_except.specs.declared.unwinding.Plan.{Plan}
-use Rattle.tiny_except.specs.declared.unwinding.Plan.TheVariants as plan
-use Rattle.tiny_except.specs.Unwinding.{slot_held, class_in, left_after, ended_in, ended_at, plan_by, plan_in, plan_at, taken_up}
+use Rattle.tiny_except.specs.Unwinding.{class_in, left_after, ended_in, ended_at, plan_in, plan_at, taken_up}
 use Rattle.tiny_except.specs.Searches.{HasSlots, AllHaveSlots, IsThere}
 use Rattle.tiny_except.specs.Machine.{GoesAlike}
-use Rattle.tiny_except.proofs.Scans.{same_count, twin}
+use Rattle.tiny_except.proofs.Scans.{same_count}
 use Rattle.tiny_except.proofs.Plans.{clauses_are}
-use Rattle.tiny_except.proofs.Throws.{Goes}
 use Rattle.tiny_except.proofs.Leaves.{leaves_here, classed, ends, plan_there}
 
 some_same : {A : Type 0} (x y : A) → Some x ≡ Some y → x ≡ y

@@ -1,5 +1,5 @@
 -- The way outwards of the second pass.
-use Rattle.std.proofs.Common.{◌≡◌, ℕ, suc, ◌+◌, ◌*◌, Bool, true, false, ◌<◌, ◌≤◌, List, [], ◌∷◌, length, Option, Some, None, refl, sym, ap, ◌∙◌, subst, arith}
+use Rattle.std.proofs.Common.{◌≡◌, ℕ, suc, ◌+◌, true, false, ◌≤◌, List, [], ◌∷◌, length, Option, Some, None, refl, sym, ap, ◌∙◌, subst, arith}
 use Rattle.std.specs.Prelude.{is_some}
 use Rattle.board_types.specs.declared.board.TypeAt.{TypeAt}
 use Rattle.tiny_ram.specs.Memory.{RamFrame, Memory, with_frames, callers}
@@ -29,7 +29,7 @@ module _ (t : Told) (class : TypeAt) (m : Memory) (begun : Option Found) (u : Ra
   pub stops : (passed : ℕ) (w : Going t class m begun u ended passed) (f : RamFrame) (fs : List RamFrame) (x : Found) → w.left ≡ f ∷ fs → stop_in t (Stop class) ended f ≡ Some x → Landed u (Some x) m (landing t class begun m.frames)
   stops passed w f fs x e h =
       let some : landing t class begun m.frames ≡ Some (record { frame = f; callers = fs; stop = x }) =
-          sym w.same ∙ ap (landing t class ended) e ∙ ap (λ o. landed_in f fs o (landing t class None fs)) h in
+      sym w.same ∙ ap (landing t class ended) e ∙ ap (λ o. landed_in f fs o (landing t class None fs)) h in
       subst (λ (o : Option Landing). Landed u (Some x) m o) (sym some) (refl, subst (λ (z : List RamFrame). Keeps u (with_frames m z)) e w.keeps)
 
   -- the innermost frame ends

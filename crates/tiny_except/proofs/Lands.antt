@@ -1,13 +1,11 @@
 -- The second pass comes to the stop that the machine's plan comes to.
-use Rattle.std.specs.Int.{w32, cast_signed}
-use Rattle.std.proofs.Common.{◌≡◌, ℕ, zero, suc, pos, ◌+◌, ◌^◌, ◌<◌, ◌≤◌, Bool, true, false, not, ◌==◌, List, [], ◌∷◌, ◌++◌, map, length, Option, Some, None, refl, sym, ap, ◌∙◌, subst, arith}
+use Rattle.std.proofs.Common.{◌≡◌, ℕ, suc, ◌+◌, Bool, true, false, not, ◌==◌, List, [], ◌∷◌, Option, Some, None, refl, sym, ap, ◌∙◌, subst}
 use Rattle.std.specs.Prelude.{if◌then◌else◌, slice_get}
 use Rattle.board_types.specs.declared.board.TypeAt.{TypeAt}
-use Rattle.board_types.specs.declared.board.ClauseAt.{ClauseAt}
 use Rattle.board_types.specs.declared.value.Value.TheVariants.{Ref}
-use Rattle.machine.specs.Data.{Id, Value, Object, Thing, Turn, Finally, EndFrame, Slot, Caught, Throwing, Frame, State}
+use Rattle.machine.specs.Data.{Id, Object, Turn, Finally, Slot, Caught, Throwing, Frame, State}
 use Rattle.machine.specs.Program.{Program, Method, Clause}
-use Rattle.machine.specs.Throw.{on_some, Scan, scan, Route, route_of, search_frames, enter_clause, follow, is_final}
+use Rattle.machine.specs.Throw.{on_some, scan, Route, route_of, search_frames, enter_clause, follow, is_final}
 use Rattle.machine_rename.specs.Again.{scan_by, after, again, Nested}
 use Rattle.machine_rename.proofs.AgainLaws.{again_first, again_next}
 use Rattle.tiny_ram.specs.Memory.{RamFrame}
@@ -17,7 +15,7 @@ use Rattle.memory_states.specs.States.{Tells, IsThrown, IsFinal, IsSlot, IsMachi
 use Rattle.tiny_except.specs.declared.clauses.Found.{Found}
 use Rattle.tiny_except.specs.declared.clauses.Goal.TheVariants as goal
 use Rattle.tiny_except.specs.Unwinding.{stop_in, Landing, landed_in, landing}
-use Rattle.tiny_except.proofs.Scans.{Turning, NoTurn, RunFinally, TakeCatch, turn_by, turn_of, turn_at, Twin, twin}
+use Rattle.tiny_except.proofs.Scans.{NoTurn, RunFinally, TakeCatch, turn_by, turn_at, twin}
 use Rattle.tiny_except.proofs.Stops.{stop_clause}
 use Rattle.tiny_except.proofs.Plans.{no_turn, catch_turn, final_turn, ended_route, final_route, final_by, clauses_are, EndedIs, scan_in, found_by}
 

@@ -1,17 +1,16 @@
 -- A leave, and the end of a finally, over a memory that stands for a state.
 use Rattle.std.specs.Int.{w32, cast_signed, cast_unsigned}
-use Rattle.std.proofs.Common.{◌≡◌, ◌≢◌, inl, inr, ℕ, zero, suc, ◌+◌, ◌-◌, ◌^◌, ◌<◌, ◌≤◌, Bool, true, false, not, ◌==◌, List, [], ◌∷◌, length, drop, Option, Some, None, refl, sym, ap, ◌∙◌, subst, arith, get_or}
-use Rattle.std.specs.Prelude.{◌⊎◌, ◌&&◌, nat_eq, nat_le, if◌then◌else◌, slice_get, slice_set, slice_index, unwrap_or, is_some}
+use Rattle.std.proofs.Common.{◌≡◌, ◌≢◌, inl, inr, ℕ, suc, ◌+◌, ◌-◌, ◌^◌, ◌<◌, Bool, true, false, not, ◌==◌, List, [], ◌∷◌, length, drop, Option, Some, None, refl, sym, ap, ◌∙◌, subst, arith, get_or}
+use Rattle.std.specs.Prelude.{◌⊎◌, ◌&&◌, nat_eq, nat_le, if◌then◌else◌, slice_get, unwrap_or, is_some}
 use Rattle.std.specs.Option.{option_map}
 use Rattle.std.proofs.lemmas.Int.{of_z-to_z}
 use Rattle.std.proofs.lemmas.Bool.{le-leb, eqb-true}
 use Rattle.std.proofs.lemmas.Bool.Decides.{eqb_tells}
 use Rattle.std.proofs.lemmas.Option.{slice_get_within, slice_get-get_or}
 use Rattle.board_types.specs.declared.board.TypeAt.{TypeAt}
-use Rattle.board_types.specs.declared.board.ClauseAt.{ClauseAt}
 use Rattle.board_types.specs.declared.value.Value.{Value as RamValue}
 use Rattle.board_types.specs.declared.value.Value.TheVariants.{Int, Ref}
-use Rattle.machine.specs.Data.{Id, Thing, Instance, Text, Elements, Boxed, StaticCell, thing_at, Turn, Slot, Nothing, Caught, Throwing, Leaving, Frame, State}
+use Rattle.machine.specs.Data.{Id, Thing, Instance, Text, Elements, Boxed, StaticCell, thing_at, Slot, Nothing, Caught, Throwing, Leaving, Frame, State}
 use Rattle.machine.specs.Program.{Program, Method, Clause}
 use Rattle.machine.specs.Throw.{on_some, goes, enter_clause, follow, is_final, left, leave, take_up, thrown_class}
 use Rattle.machine_rename.specs.Again.{after, left_by, left_again, again, Nested}
@@ -19,23 +18,23 @@ use Rattle.machine_rename.proofs.LeaveLaws.{leave_first, leave_next}
 use Rattle.tiny_ram.specs.Things.{Entry}
 use Rattle.tiny_ram.specs.Memory.{RamFrame, Memory, entry_at, with_frames}
 use Rattle.memory_states.specs.Told.{Told, in_try, is_round}
-use Rattle.memory_states.specs.Values.{id_of, AreThings, IsThing}
+use Rattle.memory_states.specs.Values.{id_of, AreThings}
 use Rattle.memory_states.specs.States.{Tells, IsThrown, IsFinal, IsSlot, IsMachineFrame, AreFrames, StandsFor}
 use Rattle.memory_states.proofs.Frames.{gone_is}
 use Rattle.memory_states.proofs.Heaps.{entry_is}
-use Rattle.tiny_except.specs.Clauses.{counts, is_finally, first_sought, is_sought}
+use Rattle.tiny_except.specs.Clauses.{counts, is_finally}
 use Rattle.tiny_except.specs.declared.clauses.Found.{Found}
 use Rattle.tiny_except.specs.declared.clauses.Regions.TheVariants.{Try, Round, Handler}
 use Rattle.tiny_except.specs.declared.clauses.Goal.TheVariants as goal
 use Rattle.tiny_except.specs.declared.unwinding.Plan.{Plan}
 use Rattle.tiny_except.specs.declared.unwinding.Plan.TheVariants as plan
-use Rattle.tiny_except.specs.Unwinding.{code_place, regions_from, first_from, stop_in, landing, entered, class_in, at_stop, left_by as left_frame, left_in, topped, on_top, left_after, slot_held, ended_in, ended_at, plan_by, plan_in, plan_at, class_or_none, taken_up}
+use Rattle.tiny_except.specs.Unwinding.{code_place, regions_from, first_from, stop_in, landing, entered, class_in, at_stop, left_by as left_frame, left_in, topped, on_top, slot_held, ended_in, ended_at, plan_by, plan_in, plan_at, class_or_none, taken_up}
 use Rattle.tiny_except.specs.Searches.{IsThere}
-use Rattle.tiny_except.specs.Machine.{KeepsRest, Alike, GoesAlike}
+use Rattle.tiny_except.specs.Machine.{Alike, GoesAlike}
 use Rattle.tiny_except.proofs.Firsts.{is_clause, is_met}
 use Rattle.tiny_except.proofs.Scans.{number_of, first_of, clauses_after, twin, Leaves, leaves, left_is}
 use Rattle.tiny_except.proofs.Stops.{stop_clause}
-use Rattle.tiny_except.proofs.Plans.{clauses_are, place_is, EndedIs, tries_are, rounds_are, final_by}
+use Rattle.tiny_except.proofs.Plans.{clauses_are, place_is, tries_are, rounds_are, final_by}
 use Rattle.tiny_except.proofs.Lands.{lands_again}
 use Rattle.tiny_except.proofs.Throws.{enter_is, entered_is, started, Goes, stops}
 
@@ -151,11 +150,11 @@ module _ (p : Program) (t : Told) (outer : Id → ℕ → ℕ → Bool) (tells :
   leaves_here target fits =
       let test : ℕ → Bool = λ j. p.try_holds g.method j g.place && not (p.try_holds g.method j target) in
       let tests : Leaves p t (Try (code_place f)) target test 0 (t.clauses f.method) =
-          leaves p t (Try (code_place f)) target test (t.clauses f.method)
-          (λ j c e.
-              ap (λ b. b && not (p.try_holds g.method j target)) (tries_are p t outer tells s.heap m.room f fs g gs k g.place j c e ∙ ap (in_try c) (sym (place_is p t outer tells s.heap m.room f fs g gs k)))
-              ∙ ap (λ b. in_try c (code_place f) && not b) (tries_are p t outer tells s.heap m.room f fs g gs k target j c e))
-          0 (t.clauses f.method) refl in
+      leaves p t (Try (code_place f)) target test (t.clauses f.method)
+      (λ j c e.
+      ap (λ b. b && not (p.try_holds g.method j target)) (tries_are p t outer tells s.heap m.room f fs g gs k g.place j c e ∙ ap (in_try c) (sym (place_is p t outer tells s.heap m.room f fs g gs k)))
+      ∙ ap (λ b. in_try c (code_place f) && not b) (tries_are p t outer tells s.heap m.room f fs g gs k target j c e))
+      0 (t.clauses f.method) refl in
       leaving target fits None (left p g.method g.place target 0 k.of.clauses)
       (left_is p t (Try (code_place f)) target test 0 (t.clauses f.method) k.of.clauses (clauses_are p t outer tells s.heap m.room f fs g gs k) tests ∙ ap first_of (sym (left_same p g.method g.place target 0 k.of.clauses)))
       (λ n ks e. sym (leave_first p outer nested g.method target k.of.clauses g.place n ks e))
@@ -165,11 +164,11 @@ module _ (p : Program) (t : Told) (outer : Id → ℕ → ℕ → Bool) (tells :
   leaves_on target fits x there finals q =
       let test : ℕ → Bool = λ j. outer g.method j x.number && not (p.try_holds g.method j target) in
       let tests : Leaves p t (Round x.clause) target test (suc x.number) (drop (suc x.number) (t.clauses f.method)) =
-          leaves p t (Round x.clause) target test (t.clauses f.method)
-          (λ j c e.
-              ap (λ b. b && not (p.try_holds g.method j target)) (rounds_are p t outer tells s.heap m.room f fs g gs k x there j c e)
-              ∙ ap (λ b. is_round c x.clause && not b) (tries_are p t outer tells s.heap m.room f fs g gs k target j c e))
-          (suc x.number) (drop (suc x.number) (t.clauses f.method)) refl in
+      leaves p t (Round x.clause) target test (t.clauses f.method)
+      (λ j c e.
+      ap (λ b. b && not (p.try_holds g.method j target)) (rounds_are p t outer tells s.heap m.room f fs g gs k x there j c e)
+      ∙ ap (λ b. is_round c x.clause && not b) (tries_are p t outer tells s.heap m.room f fs g gs k target j c e))
+      (suc x.number) (drop (suc x.number) (t.clauses f.method)) refl in
       leaving target fits (Some x) finals
       (left_is p t (Round x.clause) target test (suc x.number) (drop (suc x.number) (t.clauses f.method)) (after (suc x.number) k.of.clauses) (clauses_after p t (suc x.number) (t.clauses f.method) k.of.clauses (clauses_are p t outer tells s.heap m.room f fs g gs k)) tests ∙ ap first_of (sym q))
       (λ n ks e. sym (leave_next p outer nested g.method target k.of.clauses x.number n ks (sym q ∙ e)))
@@ -212,7 +211,7 @@ module _ (p : Program) (t : Told) (outer : Id → ℕ → ℕ → Bool) (tells :
         let rest : again p outer g.method g.initialiser x.number (id_of y.of) gs ≡ Some (record { turns = turns; catch = catch }) = ap (λ (z : Id). again p outer g.method g.initialiser x.number z gs) y.is_class ∙ h.2.rest in
         let found = lands_again p t outer tells nested m.room s y.of object own f fs g gs (k, below) x there (record { turns = turns; catch = catch }) rest in
         let goes : Goes p t outer tells nested s (at_stop m (landing t y.of (Some x) (f ∷ fs)) (1 + object)) (follow p s (g ∷ gs) turns catch object) =
-            stops p t outer tells nested m s things y.of object own (landing t y.of (Some x) (f ∷ fs)) (follow p s (g ∷ gs) turns catch object) found in
+        stops p t outer tells nested m s things y.of object own (landing t y.of (Some x) (f ∷ fs)) (follow p s (g ∷ gs) turns catch object) found in
         let going : plan_at t m.frames ≡ plan.Throwing (1 + object) = plan_held (Some (Ref (1 + object))) h.0 ∙ ap (λ (b : Bool). if b then plan.NoPlan else plan.Throwing (1 + object)) (not_zero object) in
         subst (λ (q : Plan). GoesAlike p outer s (taken_up t m q) (follow p s (g ∷ gs) turns catch object)) (sym going)
         (subst (λ (c : Option TypeAt). GoesAlike p outer s (class_or_none c (λ class. at_stop m (landing t class (ended_at t m.frames) m.frames) (1 + object))) (follow p s (g ∷ gs) turns catch object)) (sym y.there)

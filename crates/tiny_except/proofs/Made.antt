@@ -1,6 +1,6 @@
 -- A throw of an object that is made for it.
-use Rattle.std.proofs.Common.{◌≡◌, inl, inr, ℕ, zero, suc, ◌+◌, ◌-◌, ◌<◌, ◌≤◌, Bool, true, false, ◌==◌, List, [], ◌∷◌, ◌++◌, map, length, Option, Some, None, refl, sym, ap, ◌∙◌, subst, arith, eq-eqb}
-use Rattle.std.specs.Prelude.{◌⊎◌, nat_eq, if◌then◌else◌, nat_le, nat_lt, sum}
+use Rattle.std.proofs.Common.{◌≡◌, inl, inr, ℕ, suc, ◌+◌, ◌-◌, ◌<◌, ◌≤◌, Bool, true, false, ◌==◌, List, [], ◌∷◌, ◌++◌, map, length, Option, Some, None, refl, sym, ap, ◌∙◌, subst, arith}
+use Rattle.std.specs.Prelude.{◌⊎◌, nat_eq, if◌then◌else◌, nat_le, nat_lt}
 use Rattle.std.specs.Option.{option_map}
 use Rattle.std.proofs.lemmas.Bool.Decides.{leb_tells, eqb_tells}
 use Rattle.board_types.specs.declared.board.TypeAt.{TypeAt}
@@ -10,18 +10,17 @@ use Rattle.machine.specs.Data.{Id, CliType, Thing, Instance, Text, Elements, Box
 use Rattle.machine.specs.Program.{Program}
 use Rattle.machine.specs.Numbers.{zero_of}
 use Rattle.machine.specs.Throw.{on_some, throw, raise, thrown_class}
-use Rattle.machine.specs.Trace.{cells}
 use Rattle.machine_rename.specs.Again.{Nested}
 use Rattle.tiny_ram.specs.Things.{Entry, entry_cells, fresh, object_shape}
-use Rattle.tiny_ram.specs.Memory.{RamFrame, Memory, heap_cells, frame_cells, frames_cells, used, with_entry, with_frames, pushed}
+use Rattle.tiny_ram.specs.Memory.{RamFrame, Memory, heap_cells, frame_cells, used, with_entry, with_frames, pushed}
 use Rattle.memory_states.specs.Told.{Told}
 use Rattle.memory_states.specs.Values.{id_of}
 use Rattle.memory_states.specs.States.{Tells, IsThrown, StandsFor}
 use Rattle.memory_states.proofs.Heaps.{sizes_are, things_more, made_is, frames_more, used_is}
 use Rattle.tiny_except.specs.declared.clauses.Found.{Found}
 use Rattle.tiny_except.specs.declared.unwinding.Thrown.TheVariants as thrown
-use Rattle.tiny_except.specs.Unwinding.{fits, Landing, landing, entered, stopped, After, at_stop, before_stop, caught, uncaught, thrown_after}
-use Rattle.tiny_except.specs.Machine.{KeepsRest, EndsAlike, Alike, ThrowsAlike}
+use Rattle.tiny_except.specs.Unwinding.{fits, Landing, landing, entered, stopped, After, at_stop, caught, uncaught, thrown_after}
+use Rattle.tiny_except.specs.Machine.{EndsAlike, Alike, ThrowsAlike}
 use Rattle.tiny_except.proofs.Throws.{only_if, done, throws}
 
 heap_more : (es : List Entry) (e : Entry) → heap_cells (es ++ e ∷ []) ≡ heap_cells es + entry_cells e
@@ -119,13 +118,13 @@ module _ (p : Program) (t : Told) (outer : Id → ℕ → ℕ → Bool) (tells :
       let y = throws p t outer tells nested w now stands class (end_of s.heap) there in
       let number : heap_cells m.heap ≡ end_of s.heap = sizes_are p m.room m.heap s.heap h.heap in
       let goes : raise p s known ≡ Some y.state =
-          ap (λ o. on_some o (λ c. on_some (p.fields c) (λ kinds. throw p (record s { heap = s.heap ++ Instance c (map zero_of kinds) ∷ [] }) c (end_of s.heap)))) is
-          ∙ ap (λ o. on_some o (λ kinds. throw p (record s { heap = s.heap ++ Instance (id_of class) (map zero_of kinds) ∷ [] }) (id_of class) (end_of s.heap))) fields
-          ∙ y.is in
+      ap (λ o. on_some o (λ c. on_some (p.fields c) (λ kinds. throw p (record s { heap = s.heap ++ Instance c (map zero_of kinds) ∷ [] }) c (end_of s.heap)))) is
+      ∙ ap (λ o. on_some o (λ kinds. throw p (record s { heap = s.heap ++ Instance (id_of class) (map zero_of kinds) ∷ [] }) (id_of class) (end_of s.heap))) fields
+      ∙ y.is in
       let alike : Alike p outer s (done p t outer tells nested w class (1 + end_of s.heap) (fits t class m.frames)).memory y.state =
-          record { stands = y.alike.stands; rest = record { literals = y.alike.rest.literals; statics = y.alike.rest.statics; started = y.alike.rest.started; output = y.alike.rest.output } } in
+      record { stands = y.alike.stands; rest = record { literals = y.alike.rest.literals; statics = y.alike.rest.statics; started = y.alike.rest.started; output = y.alike.rest.output } } in
       let answer : ThrowsAlike p outer s m.room (only_if (nat_le (used (done p t outer tells nested w class (1 + end_of s.heap) (fits t class m.frames)).memory) m.room) (done p t outer tells nested w class (1 + end_of s.heap) (fits t class m.frames))) (Some y.state) =
-          by_room s y.state m.room (done p t outer tells nested w class (1 + end_of s.heap) (fits t class m.frames)) alike y.end in
+      by_room s y.state m.room (done p t outer tells nested w class (1 + end_of s.heap) (fits t class m.frames)) alike y.end in
       subst (λ (o : Option State). ThrowsAlike p outer s m.room (thrown_after t m class (thrown.Made class (length types))) o) (sym goes)
       (subst (λ (o : Option After). ThrowsAlike p outer s m.room o (Some y.state)) (sym (made_after m class (length types) (fits t class m.frames)))
       (subst (λ n. ThrowsAlike p outer s m.room (only_if (nat_le (used (done p t outer tells nested (with_entry m (fresh (object_shape class (length types)))) class (1 + n) (fits t class m.frames)).memory) m.room) (done p t outer tells nested (with_entry m (fresh (object_shape class (length types)))) class (1 + n) (fits t class m.frames))) (Some y.state)) (sym number) answer))

@@ -1,29 +1,24 @@
 -- The machine's plan, and the search over a memory that stands for its state.
-use Rattle.std.specs.Int.{w32, cast_signed, cast_unsigned}
-use Rattle.std.proofs.Common.{◌≡◌, ℕ, zero, suc, pos, ◌+◌, ◌^◌, ◌<◌, ◌≤◌, Bool, true, false, not, ◌==◌, List, [], ◌∷◌, ◌++◌, map, length, drop, Option, Some, None, refl, sym, ap, ◌∙◌, subst, arith}
-use Rattle.std.specs.Prelude.{if◌then◌else◌, ◌||◌, ◌&&◌, nat_le, slice_get, slice_set, slice_index, is_some}
-use Rattle.std.specs.Option.{option_map}
-use Rattle.std.proofs.lemmas.Int.{of_z-to_z, to_z_pos}
-use Rattle.std.proofs.lemmas.Option.{slice_get_within}
+use Rattle.std.specs.Int.{w32, cast_unsigned}
+use Rattle.std.proofs.Common.{◌≡◌, ℕ, suc, Bool, true, false, not, ◌==◌, List, [], ◌∷◌, ◌++◌, map, drop, Option, Some, None, refl, sym, ap, ◌∙◌}
+use Rattle.std.specs.Prelude.{◌||◌, ◌&&◌, slice_get, is_some}
+use Rattle.std.proofs.lemmas.Int.{of_z-to_z}
 use Rattle.board_types.specs.declared.board.TypeAt.{TypeAt}
 use Rattle.board_types.specs.declared.board.ClauseAt.{ClauseAt}
-use Rattle.board_types.specs.declared.value.Value.TheVariants.{Ref}
-use Rattle.machine.specs.Data.{Id, Value, Object, Thing, Turn, Finally, EndFrame, Slot, Caught, Throwing, Frame, State}
-use Rattle.machine.specs.Program.{Program, Method, Clause, ClauseKind, Catch, Final, Idle}
-use Rattle.machine.specs.Throw.{on_some, goes, Scan, scan, Route, way_out, route_of, search_frames, enter_clause, follow, is_final}
-use Rattle.machine_rename.specs.Again.{scan_by, after, again, Nested}
-use Rattle.machine_rename.proofs.AgainLaws.{scan_same, again_first, again_next}
+use Rattle.machine.specs.Data.{Id, Thing, Turn, Finally, EndFrame, Frame}
+use Rattle.machine.specs.Program.{Program, Method, ClauseKind, Catch, Final, Idle}
+use Rattle.machine.specs.Throw.{on_some, Scan, scan, Route, route_of, search_frames, is_final}
+use Rattle.machine_rename.specs.Again.{scan_by, after}
+use Rattle.machine_rename.proofs.AgainLaws.{scan_same}
 use Rattle.tiny_ram.specs.Memory.{RamFrame}
 use Rattle.memory_states.specs.Told.{Told, in_try, is_round}
 use Rattle.memory_states.specs.Values.{id_of}
-use Rattle.memory_states.specs.States.{KindIs, ClausesAre, Tells, IsThrown, IsFinal, IsSlot, IsMachineFrame, AreFrames}
-use Rattle.tiny_except.specs.Clauses.{first_sought}
+use Rattle.memory_states.specs.States.{KindIs, ClausesAre, Tells, IsMachineFrame, AreFrames}
 use Rattle.tiny_except.specs.declared.clauses.Found.{Found}
 use Rattle.tiny_except.specs.declared.clauses.Regions.TheVariants.{Try, Round}
 use Rattle.tiny_except.specs.declared.clauses.Goal.TheVariants as goal
-use Rattle.tiny_except.specs.Unwinding.{code_place, regions_from, first_from, stop_in, fits, Landing, landed_in, landing}
-use Rattle.tiny_except.proofs.Firsts.{is_clause}
-use Rattle.tiny_except.proofs.Scans.{Turning, NoTurn, RunFinally, TakeCatch, turn_by, turn_of, turn_at, number_of, Tested, tested, clauses_after, Twin, twin, catch_is, stop_is}
+use Rattle.tiny_except.specs.Unwinding.{code_place, stop_in, fits}
+use Rattle.tiny_except.proofs.Scans.{NoTurn, RunFinally, TakeCatch, turn_by, turn_of, turn_at, number_of, Tested, tested, clauses_after, catch_is, stop_is}
 
 some_same : {A : Type 0} (x y : A) → Some x ≡ Some y → x ≡ y
 some_same x y e = cc e
@@ -106,7 +101,7 @@ module _ (p : Program) (t : Told) (outer : Id → ℕ → ℕ → Bool) (tells :
     found_by f fs g gs k None h =
         let test : ℕ → Bool = λ j. p.try_holds g.method j g.place in
         let tests : Tested test (Try (code_place f)) 0 (t.clauses f.method) =
-            tested test (Try (code_place f)) (t.clauses f.method) (λ j c e. tries_are f fs g gs k g.place j c e ∙ ap (in_try c) (sym (place_is f fs g gs k))) 0 (t.clauses f.method) refl in
+        tested test (Try (code_place f)) (t.clauses f.method) (λ j c e. tries_are f fs g gs k g.place j c e ∙ ap (in_try c) (sym (place_is f fs g gs k))) 0 (t.clauses f.method) refl in
         let same : scan_by p test (id_of class) 0 k.of.clauses ≡ scan p g.method g.place (id_of class) 0 k.of.clauses = sym (scan_same p g.method g.place (id_of class) 0 k.of.clauses) in
         record {
           catch = catch_is p t class (Try (code_place f)) test 0 (t.clauses f.method) k.of.clauses (clauses_are f fs g gs k) tests ∙ ap (λ (z : Scan). z.catch) same;
@@ -115,9 +110,9 @@ module _ (p : Program) (t : Told) (outer : Id → ℕ → ℕ → Bool) (tells :
     found_by f fs g gs k (Some x) h =
         let test : ℕ → Bool = λ j. outer g.method j x.number in
         let tests : Tested test (Round x.clause) (suc x.number) (drop (suc x.number) (t.clauses f.method)) =
-            tested test (Round x.clause) (t.clauses f.method) (λ j c e. rounds_are f fs g gs k x h j c e) (suc x.number) (drop (suc x.number) (t.clauses f.method)) refl in
+        tested test (Round x.clause) (t.clauses f.method) (λ j c e. rounds_are f fs g gs k x h j c e) (suc x.number) (drop (suc x.number) (t.clauses f.method)) refl in
         let clauses : ClausesAre p t (drop (suc x.number) (t.clauses f.method)) (after (suc x.number) k.of.clauses) =
-            clauses_after p t (suc x.number) (t.clauses f.method) k.of.clauses (clauses_are f fs g gs k) in
+        clauses_after p t (suc x.number) (t.clauses f.method) k.of.clauses (clauses_are f fs g gs k) in
         record {
           catch = catch_is p t class (Round x.clause) test (suc x.number) (drop (suc x.number) (t.clauses f.method)) (after (suc x.number) k.of.clauses) clauses tests;
           stop = stop_is p t class (Round x.clause) test (suc x.number) (drop (suc x.number) (t.clauses f.method)) (after (suc x.number) k.of.clauses) clauses tests;

@@ -1,7 +1,6 @@
 -- A scan of the machine's clauses finds what is looked for among those that are told.
 use Rattle.std.proofs.Common.{◌≡◌, ℕ, zero, suc, Bool, true, false, ◌==◌, List, [], ◌∷◌, length, drop, Option, Some, None, refl, sym, ap, ◌∙◌, subst}
 use Rattle.std.specs.Prelude.{if◌then◌else◌, ◌&&◌, ◌||◌, not, slice_get}
-use Rattle.std.specs.Option.{option_map}
 use Rattle.board_types.specs.declared.board.TypeAt.{TypeAt}
 use Rattle.board_types.specs.declared.board.ClauseAt.{ClauseAt}
 use Rattle.machine.specs.Program.{Program, Clause, ClauseKind, Catch, Final, Idle}
@@ -10,7 +9,7 @@ use Rattle.machine_rename.specs.Again.{scan_by, after, left_by}
 use Rattle.memory_states.specs.Told.{Told, in_try}
 use Rattle.memory_states.specs.Values.{id_of}
 use Rattle.memory_states.specs.States.{KindIs, ClausesAre}
-use Rattle.tiny_except.specs.Clauses.{counts, takes, meets, first_sought}
+use Rattle.tiny_except.specs.Clauses.{counts, first_sought}
 use Rattle.tiny_except.specs.declared.clauses.Found.{Found}
 use Rattle.tiny_except.specs.declared.clauses.Regions.{Regions}
 use Rattle.tiny_except.specs.declared.clauses.Goal.TheVariants as goal

@@ -1,12 +1,10 @@
 -- The stops of a frame are clauses of its method.
-use Rattle.std.proofs.Common.{◌≡◌, ℕ, zero, suc, ◌+◌, ◌<◌, List, [], ◌∷◌, length, drop, Option, Some, None, refl, sym, ap, ◌∙◌, subst, arith}
+use Rattle.std.proofs.Common.{◌≡◌, ◌<◌, List, [], ◌∷◌, drop, Option, Some, None, refl, subst, arith}
 use Rattle.std.specs.Prelude.{slice_get, slice_index}
 use Rattle.std.proofs.lemmas.Option.{slice_get_within}
 use Rattle.board_types.specs.declared.board.TypeAt.{TypeAt}
-use Rattle.board_types.specs.declared.board.ClauseAt.{ClauseAt}
 use Rattle.tiny_ram.specs.Memory.{RamFrame}
 use Rattle.memory_states.specs.Told.{Told}
-use Rattle.tiny_except.specs.Clauses.{first_sought}
 use Rattle.tiny_except.specs.declared.clauses.Found.{Found}
 use Rattle.tiny_except.specs.declared.clauses.Goal.{Goal}
 use Rattle.tiny_except.specs.declared.clauses.Goal.TheVariants.{Stop, Finally}

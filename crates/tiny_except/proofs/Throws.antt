@@ -1,34 +1,24 @@
 -- A throw over a memory that stands for a state is the machine's throw of the state.
-use Rattle.std.specs.Int.{w32, cast_signed}
-use Rattle.std.proofs.Common.{◌≡◌, ℕ, zero, suc, pos, ◌+◌, ◌-◌, ◌^◌, ◌<◌, ◌≤◌, Bool, true, false, not, ◌==◌, List, [], ◌∷◌, ◌++◌, map, length, Option, Some, None, refl, sym, ap, ◌∙◌, subst, arith, eq-eqb}
-use Rattle.std.specs.Prelude.{if◌then◌else◌, nat_le, nat_lt, slice_get, slice_set, slice_index, is_some}
-use Rattle.std.specs.Option.{option_map}
-use Rattle.std.proofs.lemmas.Int.{to_z_pos}
-use Rattle.std.proofs.lemmas.Bool.{eqb-true, le-leb, leb-true}
-use Rattle.std.proofs.lemmas.Bool.Decides.{leb_tells}
+use Rattle.std.proofs.Common.{◌≡◌, ℕ, ◌+◌, ◌^◌, ◌<◌, ◌≤◌, Bool, true, false, ◌==◌, List, [], ◌∷◌, length, Option, Some, None, refl, sym, ap, ◌∙◌, subst, arith}
+use Rattle.std.specs.Prelude.{if◌then◌else◌, nat_le, slice_get, slice_set, is_some}
+use Rattle.std.proofs.lemmas.Bool.{eqb-true, le-leb}
 use Rattle.std.proofs.lemmas.Option.{slice_get_within}
 use Rattle.board_types.specs.declared.board.TypeAt.{TypeAt}
-use Rattle.board_types.specs.declared.board.ClauseAt.{ClauseAt}
 use Rattle.board_types.specs.declared.value.Value.{Value as RamValue}
 use Rattle.board_types.specs.declared.value.Value.TheVariants.{Ref}
-use Rattle.machine.specs.Data.{Id, CliType, Value, Object, Thing, Instance, thing_at, thing_size, end_of, Turn, Slot, Frame, State, Threw}
+use Rattle.machine.specs.Data.{Id, Value, Object, Slot, Frame, State, Threw}
 use Rattle.machine.specs.Program.{Program, Method, Clause}
-use Rattle.board_types.specs.declared.board.Known.{Known}
-use Rattle.machine.specs.Numbers.{zero_of}
-use Rattle.machine.specs.Throw.{on_some, goes, Route, search_frames, enter_clause, follow, taken, throw, raise, thrown_class}
-use Rattle.machine.specs.Trace.{cells}
+use Rattle.machine.specs.Throw.{on_some, goes, Route, search_frames, enter_clause, follow, taken, throw}
 use Rattle.machine_rename.specs.Again.{Nested}
-use Rattle.tiny_ram.specs.Things.{Entry, entry_cells, fresh, object_shape}
-use Rattle.tiny_ram.specs.Memory.{RamFrame, Memory, heap_cells, used, with_entry, with_frames, pushed}
+use Rattle.tiny_ram.specs.Memory.{RamFrame, Memory, pushed}
 use Rattle.memory_states.specs.Told.{Told}
 use Rattle.memory_states.specs.Values.{id_of, AreThings}
-use Rattle.memory_states.specs.States.{Tells, IsThrown, IsSlot, IsMachineFrame, AreFrames, StandsFor}
+use Rattle.memory_states.specs.States.{Tells, IsThrown, IsSlot, IsMachineFrame, StandsFor}
 use Rattle.memory_states.proofs.Frames.{changed, pushed_is, put_slot_is, gone_is}
-use Rattle.memory_states.proofs.Heaps.{sizes_are, things_more, made_is, frames_more, used_is}
 use Rattle.tiny_except.specs.declared.clauses.Found.{Found}
 use Rattle.tiny_except.specs.declared.unwinding.Thrown.TheVariants as thrown
-use Rattle.tiny_except.specs.Unwinding.{fits, Landing, landing, slot_index, entered, stopped, with_thrown, thrown_object, After, at_stop, before_stop, caught, uncaught, thrown_after}
-use Rattle.tiny_except.specs.Machine.{KeepsRest, EndsAlike, Alike, ThrowsAlike}
+use Rattle.tiny_except.specs.Unwinding.{fits, Landing, landing, slot_index, entered, stopped, After, at_stop, caught, uncaught, thrown_after}
+use Rattle.tiny_except.specs.Machine.{EndsAlike, Alike, ThrowsAlike}
 use Rattle.tiny_except.proofs.Scans.{twin}
 use Rattle.tiny_except.proofs.Plans.{clauses_are, fits_is}
 use Rattle.tiny_except.proofs.Lands.{Lands, lands}

@@ -1,12 +1,11 @@
 -- The innermost frame, and the parts of a frame.
 use Rattle.std.specs.Int.{w32, cast_signed, cast_unsigned}
-use Rattle.std.proofs.Common.{◌≡◌, ◌≢◌, inl, inr, ℕ, ℤ, zero, suc, pos, ◌+◌, ◌%◌, ◌<◌, ◌≤◌, Bool, true, false, ◌==◌, List, [], ◌∷◌, Option, Some, None, refl, sym, ap, ◌∙◌, subst, arith, eq-eqb}
-use Rattle.std.specs.Prelude.{◌⊎◌, nat_eq, nat_le, nat_lt, if◌then◌else◌, sum, slice_get, slice_set, slice_index, unwrap_or}
+use Rattle.std.proofs.Common.{◌≡◌, ◌≢◌, inl, inr, ℕ, ℤ, suc, pos, ◌+◌, ◌%◌, ◌<◌, ◌≤◌, Bool, true, false, ◌==◌, List, [], ◌∷◌, Some, refl, sym, ap, ◌∙◌, subst, arith, eq-eqb}
+use Rattle.std.specs.Prelude.{◌⊎◌, nat_eq, nat_le, nat_lt, if◌then◌else◌, sum, slice_set, slice_index, unwrap_or}
 use Rattle.std.specs.List.{fold}
 use Rattle.std.proofs.lemmas.Int.{of_z-to_z}
-use Rattle.std.proofs.lemmas.Bool.{leb-true, le-leb, eqb-true}
+use Rattle.std.proofs.lemmas.Bool.{le-leb}
 use Rattle.std.proofs.lemmas.Bool.Decides.{eqb_tells, leb_tells}
-use Rattle.plain_types.specs.declared.elem.Elem.{Elem}
 use Rattle.plain_types.specs.declared.elem.Elem.TheVariants.{Class, I4}
 use Rattle.board_types.specs.declared.value.Value.{Value}
 use Rattle.board_types.specs.declared.value.Value.TheVariants.{Int, Long, Ref, Pointer, Handle}

@@ -1,9 +1,9 @@
 -- A walk from the innermost frame outwards, by the frames' numbers.
-use Rattle.std.proofs.Common.{◌≡◌, ◌≢◌, ℕ, ◌+◌, ◌-◌, ◌*◌, ◌^◌, ◌<◌, ◌≤◌, Bool, true, false, ◌==◌, List, [], ◌∷◌, length, Option, Some, None, refl, sym, ap, ◌∙◌, subst, arith, eq-eqb}
+use Rattle.std.proofs.Common.{◌≡◌, ◌≢◌, ℕ, ◌+◌, ◌-◌, ◌*◌, ◌^◌, ◌<◌, ◌≤◌, Bool, true, false, ◌==◌, List, [], ◌∷◌, length, Some, refl, sym, ap, ◌∙◌, subst, arith, eq-eqb}
 use Rattle.std.specs.Prelude.{if◌then◌else◌, sum}
 use Rattle.std.proofs.lemmas.Bool.{eqb-true}
 use Rattle.tiny_ram.specs.Memory.{RamFrame, Memory, frame_cells, frames_cells, innermost, frame_at, caller_of, IsFrame}
-use Rattle.tiny_ram.specs.Region.{Holds, Keeps}
+use Rattle.tiny_ram.specs.Region.{Keeps}
 use Rattle.tiny_ram.specs.declared.memory.Ram.{Ram}
 use Rattle.tiny_ram.proofs.Stacks.{stacked-end}
 

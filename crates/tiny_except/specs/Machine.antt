@@ -1,7 +1,7 @@
 -- The calls beside the machine's steps.
-use Rattle.std.specs.Prelude.{◌≡◌, ℕ, ◌<◌, Bool, List, Option, Some, None}
+use Rattle.std.specs.Prelude.{◌≡◌, ℕ, ◌<◌, Bool, Option, Some, None}
 use Rattle.board_types.specs.declared.board.TypeAt.{TypeAt}
-use Rattle.machine.specs.Data.{Id, Literal, Static, State, Threw}
+use Rattle.machine.specs.Data.{Id, State, Threw}
 use Rattle.machine.specs.Program.{Program}
 use Rattle.machine.specs.Trace.{cells}
 use Rattle.tiny_ram.specs.Memory.{Memory}

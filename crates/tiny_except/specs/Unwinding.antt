@@ -1,16 +1,12 @@
 -- Exceptions over a memory: the search for a catch, and the finally blocks on the way (I.12.4.2).
 use Rattle.std.specs.Int.{w32, cast_signed, cast_unsigned}
-use Rattle.std.specs.Prelude.{◌≡◌, ℕ, ℤ, suc, pos, ◌+◌, ◌-◌, ◌<◌, ◌≤◌, Bool, true, false, ◌&&◌, ◌||◌, not, ◌==◌, nat_le, if◌then◌else◌, List, [], ◌∷◌, drop, length, Option, Some, None, is_some, unwrap_or, slice_get, slice_set, slice_index, Result, Ok, Err}
+use Rattle.std.specs.Prelude.{ℕ, ℤ, suc, pos, ◌+◌, ◌-◌, Bool, false, ◌&&◌, ◌||◌, not, ◌==◌, nat_le, if◌then◌else◌, List, [], ◌∷◌, drop, Option, Some, None, is_some, unwrap_or, slice_get, slice_set, slice_index}
 use Rattle.std.specs.Option.{option_map}
 use Rattle.board_types.specs.declared.board.TypeAt.{TypeAt}
-use Rattle.board_types.specs.declared.board.ClauseAt.{ClauseAt}
 use Rattle.board_types.specs.declared.value.Value.{Value}
 use Rattle.board_types.specs.declared.value.Value.TheVariants.{Int, Long, Ref, Pointer, Handle}
 use Rattle.tiny_ram.specs.Things.{Entry, fresh, entry_cells, object_shape}
 use Rattle.tiny_ram.specs.Memory.{RamFrame, Memory, entry_at, heap_cells, used, with_entry, with_frames, variables, pushed}
-use Rattle.tiny_ram.specs.Region.{Keeps}
-use Rattle.tiny_ram.specs.declared.memory.Ram.{Ram}
-use Rattle.tiny_ram.specs.declared.memory.Spent.{Spent}
 use Rattle.memory_states.specs.Told.{Told}
 use Rattle.tiny_except.specs.Clauses.{first_sought}
 use Rattle.tiny_except.specs.declared.clauses.Found.{Found}

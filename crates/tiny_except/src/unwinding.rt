@@ -72,12 +72,7 @@ fn is_caught<S: Subclass>(ram: &Ram, types: &S, class: TypeAt) -> bool
 
 /// Ends frames up to the first that has a finally to run, or a catch that takes the class, and answers that clause. The innermost
 /// frame may be searched on from a finally that has ended.
-fn land<S: Subclass>(
-    ram: &mut Ram,
-    types: &S,
-    class: TypeAt,
-    ended: Option<Found>,
-) -> Option<Found>
+fn land<S: Subclass>(ram: &mut Ram, types: &S, class: TypeAt, ended: Option<Found>) -> Option<Found>
     ensures { (m : Memory) → Keeps ram.old m → Landed ram.new result m (landing (told (S.sub types.now) (S.clauses types.now)) class ended m.frames) }
 {
     let mut ended = ended;
