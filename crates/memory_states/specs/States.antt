@@ -52,8 +52,11 @@ local_held f i = place_held f (slice_index f.sizes 0 + i)
 abbrev pub stack_held : RamFrame → ℕ → Option RamValue
 stack_held f i = place_held f (variables f + (f.depth - (i + 1)))
 
+abbrev pub slot_index : RamFrame → ℕ → ℕ
+slot_index f k = variables f + slice_index f.sizes 2 + k
+
 abbrev pub slot_held : RamFrame → ℕ → Option RamValue
-slot_held f k = place_held f (variables f + slice_index f.sizes 2 + k)
+slot_held f k = place_held f (slot_index f k)
 
 -- the values are those of places of these types
 abbrev pub PlacesAre : ℕ → List RamFrame → (ℕ → Option RamValue) → List PlaceType → List Value → Type 0

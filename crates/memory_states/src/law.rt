@@ -5,12 +5,13 @@ ghost use Rattle.board_types.specs.declared.board.TypeAt.{TypeAt};
 ghost use Rattle.board_types.specs.declared.board.BoardType.{BoardType};
 ghost use Rattle.board_types.specs.declared.value.Value.{Value as RamValue};
 ghost use Rattle.machine.specs.Data.{Id, CliType, Value, Thing, Instance, thing_at, thing_size, Frame, State, cell_of};
-ghost use Rattle.machine.specs.Program.{Program};
+ghost use Rattle.machine.specs.Program.{Program, Method};
 ghost use Rattle.machine.specs.Numbers.{zero_of};
+ghost use Rattle.machine.specs.Calls.{start_frame};
 ghost use Rattle.machine.specs.Trace.{cells};
 ghost use Rattle.ram_words.specs.Elements.{type_held};
 ghost use Rattle.tiny_ram.specs.Things.{Entry, entry_cells, fresh, object_shape};
-ghost use Rattle.tiny_ram.specs.Memory.{RamFrame, Memory, used, entry_at, with_entry, pushed};
+ghost use Rattle.tiny_ram.specs.Memory.{RamFrame, Memory, used, entry_at, with_entry, pushed, fresh_frame};
 ghost use Rattle.memory_states.specs.Values.{id_of, cli_type, IsValue, IsThing, AreThings};
 ghost use Rattle.memory_states.specs.States.{StandsFor, IsMachineFrame};
 
@@ -26,6 +27,11 @@ pub fn objects_are_alike()
     ensures there { (p : Program) (room : ℕ) (es : List Entry) (xs : List Thing) → AreThings p room es xs → (n : ℕ) (x : Thing) → thing_at xs n ≡ Some x → (e : Entry) × (entry_at es n ≡ Some e) × IsThing p room e x }
     ensures made { (p : Program) (outer : Id → ℕ → ℕ → Bool) (m : Memory) (s : State) (e : Entry) (x : Thing) → StandsFor p outer m s → IsThing p m.room e x → StandsFor p outer (with_entry m e) (record s { heap = s.heap ++ x ∷ [] }) }
     ensures instance { (p : Program) (room : ℕ) (class : TypeAt) (types : List CliType) → p.fields (id_of class) ≡ Some types → IsThing p room (fresh (object_shape class (length types))) (Instance (id_of class) (map zero_of types)) }
+{}
+
+/// A new frame of a method without arguments is the machine's, for any callers.
+pub fn frames_start_alike()
+    ensures { (p : Program) (outer : Id → ℕ → ℕ → Bool) (heap : List Thing) (room : ℕ) (method : TypeAt) (m : Method) (initialiser : Bool) (fs : List RamFrame) (gs : List Frame) → p.method (id_of method) ≡ Some m → m.arguments ≡ [] → IsMachineFrame p outer heap room (record (fresh_frame method (length m.arguments ∷ length m.locals ∷ m.max_stack ∷ length m.clauses ∷ [])) { initialiser = initialiser }) fs (start_frame initialiser (id_of method) m []) gs }
 {}
 
 /// A push keeps a frame the machine's, where the stack has room.

@@ -1,13 +1,14 @@
 -- Exceptions over a memory: the search for a catch, and the finally blocks on the way (I.12.4.2).
 use Rattle.std.specs.Int.{w32, cast_signed, cast_unsigned}
-use Rattle.std.specs.Prelude.{ℕ, ℤ, suc, pos, ◌+◌, ◌-◌, Bool, false, ◌&&◌, ◌||◌, not, ◌==◌, nat_le, if◌then◌else◌, List, [], ◌∷◌, drop, Option, Some, None, is_some, unwrap_or, slice_get, slice_set, slice_index}
+use Rattle.std.specs.Prelude.{ℕ, ℤ, suc, pos, ◌+◌, ◌-◌, Bool, false, ◌&&◌, ◌||◌, not, ◌==◌, nat_le, if◌then◌else◌, List, [], ◌∷◌, drop, Option, Some, None, is_some, unwrap_or, slice_set}
 use Rattle.std.specs.Option.{option_map}
 use Rattle.board_types.specs.declared.board.TypeAt.{TypeAt}
 use Rattle.board_types.specs.declared.value.Value.{Value}
 use Rattle.board_types.specs.declared.value.Value.TheVariants.{Int, Long, Ref, Pointer, Handle}
 use Rattle.tiny_ram.specs.Things.{Entry, fresh, entry_cells, object_shape}
-use Rattle.tiny_ram.specs.Memory.{RamFrame, Memory, entry_at, heap_cells, used, with_entry, with_frames, variables, pushed}
+use Rattle.tiny_ram.specs.Memory.{RamFrame, Memory, entry_at, heap_cells, used, with_entry, with_frames, pushed}
 use Rattle.memory_states.specs.Told.{Told}
+pub use Rattle.memory_states.specs.States.{slot_index, slot_held}
 use Rattle.tiny_except.specs.Clauses.{first_sought}
 use Rattle.tiny_except.specs.declared.clauses.Found.{Found}
 use Rattle.tiny_except.specs.declared.clauses.Regions.{Regions}
@@ -68,13 +69,6 @@ landing t class ended [] = None
 landing t class ended (f ∷ fs) = landed_in f fs (stop_in t (Stop class) ended f) (landing t class None fs)
 
 -- ---- entering a handler
-
--- the clause slots lie behind arguments, locals and stack places
-abbrev pub slot_index : RamFrame → ℕ → ℕ
-slot_index f k = variables f + slice_index f.sizes 2 + k
-
-abbrev pub slot_held : RamFrame → ℕ → Option Value
-slot_held f k = unwrap_or (slice_get f.places (slot_index f k)) None
 
 -- a clause's handler starts, with nothing on the stack and a value in the clause's slot
 abbrev pub entered : RamFrame → Found → Value → RamFrame

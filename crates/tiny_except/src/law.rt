@@ -1,7 +1,7 @@
 //! The calls are the machine's, over a memory that stands for its state.
 
 ghost use Rattle.std.specs.Prelude.{◌≡◌, ℕ, ◌+◌, ◌^◌, ◌<◌, Bool, List, ◌∷◌, length, Option, Some, slice_get};
-ghost use Rattle.board_types.specs.declared.board.TypeAt.{TypeAt as Row};
+ghost use Rattle.board_types.specs.declared.board.TypeAt.{TypeAt};
 ghost use Rattle.board_types.specs.declared.board.Known.{Known};
 ghost use Rattle.machine.specs.Data.{Id, CliType, Frame, State};
 ghost use Rattle.machine.specs.Program.{Program, Method};
@@ -20,8 +20,8 @@ ghost use Rattle.tiny_except.specs.Machine.{ThrowsAlike, GoesAlike};
 /// A throw over the memory is the machine's throw by a plan: of an object that is there, and of one that is made for a known class.
 /// Its cells don't do exactly where the machine's state after it has too many.
 pub fn throws_are_the_machines()
-    ensures object { (p : Program) (t : Told) (outer : Id → ℕ → ℕ → Bool) → Tells t p outer → Nested p outer → (m : Memory) (s : State) → StandsFor p outer m s → (class : Row) (object : ℕ) → IsThrown p outer s.heap object (id_of class) → ThrowsAlike p outer s m.room (thrown_after t m class (Object (1 + object))) (throw_object p s (id_of class) object) }
-    ensures made { (p : Program) (t : Told) (outer : Id → ℕ → ℕ → Bool) → Tells t p outer → Nested p outer → (m : Memory) (s : State) → StandsFor p outer m s → (known : Known) (class : Row) (types : List CliType) → p.known known ≡ Some (id_of class) → p.fields (id_of class) ≡ Some types → ThrowsAlike p outer s m.room (thrown_after t m class (Made class (length types))) (raise p s known) }
+    ensures object { (p : Program) (t : Told) (outer : Id → ℕ → ℕ → Bool) → Tells t p outer → Nested p outer → (m : Memory) (s : State) → StandsFor p outer m s → (class : TypeAt) (object : ℕ) → IsThrown p outer s.heap object (id_of class) → ThrowsAlike p outer s m.room (thrown_after t m class (Object (1 + object))) (throw_object p s (id_of class) object) }
+    ensures made { (p : Program) (t : Told) (outer : Id → ℕ → ℕ → Bool) → Tells t p outer → Nested p outer → (m : Memory) (s : State) → StandsFor p outer m s → (known : Known) (class : TypeAt) (types : List CliType) → p.known known ≡ Some (id_of class) → p.fields (id_of class) ≡ Some types → ThrowsAlike p outer s m.room (thrown_after t m class (Made class (length types))) (raise p s known) }
 {}
 
 /// A leave over the memory is the machine's, which never lacks a case.
@@ -38,5 +38,5 @@ pub fn ends_are_the_machines()
 pub fn slots_are_there()
     ensures slots { (p : Program) (t : Told) (outer : Id → ℕ → ℕ → Bool) → Tells t p outer → (m : Memory) (s : State) → StandsFor p outer m s → AllHaveSlots t m.frames }
     ensures plan { (p : Program) (t : Told) (outer : Id → ℕ → ℕ → Bool) → Tells t p outer → Nested p outer → (m : Memory) (s : State) → StandsFor p outer m s → IsThere m (plan_at t m.frames) }
-    ensures class { (p : Program) (t : Told) (outer : Id → ℕ → ℕ → Bool) → Tells t p outer → Nested p outer → (m : Memory) (s : State) → StandsFor p outer m s → (object : ℕ) (class : Id) → IsThrown p outer s.heap object class → (of : Row) × (class_in m.heap (1 + object) ≡ Some of) × (id_of of ≡ class) }
+    ensures class { (p : Program) (t : Told) (outer : Id → ℕ → ℕ → Bool) → Tells t p outer → Nested p outer → (m : Memory) (s : State) → StandsFor p outer m s → (object : ℕ) (class : Id) → IsThrown p outer s.heap object class → (of : TypeAt) × (class_in m.heap (1 + object) ≡ Some of) × (id_of of ≡ class) }
 {}

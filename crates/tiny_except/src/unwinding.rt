@@ -1,7 +1,7 @@
 //! Throws, `leave` and `endfinally`.
 
 ghost use Rattle.std.specs.Prelude.{◌≡◌, Some, None};
-ghost use Rattle.board_types.specs.declared.board.TypeAt.{TypeAt as Row};
+ghost use Rattle.board_types.specs.declared.board.TypeAt.{TypeAt};
 ghost use Rattle.tiny_ram.specs.Memory.{Memory};
 ghost use Rattle.tiny_ram.specs.Region.{Keeps};
 ghost use Rattle.memory_states.specs.Told.{told};
@@ -30,7 +30,7 @@ pub enum Thrown {
 impl Thrown {
     /// The class of what is thrown.
     fn class(self, ram: &Ram) -> TypeAt
-        ensures { (m : Memory) (class : Row) → Keeps ram.now m → thrown_class m self ≡ Some class → result ≡ class }
+        ensures { (m : Memory) (class : TypeAt) → Keeps ram.now m → thrown_class m self ≡ Some class → result ≡ class }
     {
         match self {
             Thrown::Made { class, .. } => class,
@@ -120,7 +120,7 @@ fn catch<S: Subclass>(
 /// handler then starts, and the answer is `None`. Else no frame ends, and the answer is the object's class. An object that is to be
 /// made is made when the frames have ended; `Spent` where its cells don't do, and then nothing is said of the memory.
 pub fn throw<S: Subclass>(ram: &mut Ram, types: &S, thrown: Thrown) -> Result<Option<TypeAt>, Spent>
-    ensures { (m : Memory) (class : Row) → Keeps ram.old m → AllHaveSlots (told (S.sub types.now) (S.clauses types.now)) m.frames → thrown_class m thrown ≡ Some class → Threw ram.new result (thrown_after (told (S.sub types.now) (S.clauses types.now)) m class thrown) }
+    ensures { (m : Memory) (class : TypeAt) → Keeps ram.old m → AllHaveSlots (told (S.sub types.now) (S.clauses types.now)) m.frames → thrown_class m thrown ≡ Some class → Threw ram.new result (thrown_after (told (S.sub types.now) (S.clauses types.now)) m class thrown) }
 {
     let class = thrown.class(ram);
     if is_caught(ram, types, class) {
@@ -179,7 +179,7 @@ fn plan_told(held: Value) -> Plan
 
 /// Goes on with an exception behind a finally that has ended.
 fn throw_on<S: Subclass>(ram: &mut Ram, types: &S, ended: Found, object: u32)
-    ensures { (m : Memory) (class : Row) → Keeps ram.old m → AllHaveSlots (told (S.sub types.now) (S.clauses types.now)) m.frames → class_in m.heap object ≡ Some class → Keeps ram.new (at_stop m (landing (told (S.sub types.now) (S.clauses types.now)) class (Some ended) m.frames) object) }
+    ensures { (m : Memory) (class : TypeAt) → Keeps ram.old m → AllHaveSlots (told (S.sub types.now) (S.clauses types.now)) m.frames → class_in m.heap object ≡ Some class → Keeps ram.new (at_stop m (landing (told (S.sub types.now) (S.clauses types.now)) class (Some ended) m.frames) object) }
 {
     let class = ram.shape(object).of.of;
     if let Some(stop) = land(ram, types, class, Some(ended)) {
