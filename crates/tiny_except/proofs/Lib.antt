@@ -1,0 +1,14 @@
+pub mod Firsts
+pub mod Walks
+pub mod Stops
+pub mod Landings
+pub mod Tops
+pub mod Caught
+pub mod Catches
+pub mod Scans
+pub mod Plans
+pub mod Lands
+pub mod Throws
+pub mod Made
+pub mod Leaves
+pub mod Holding

@@ -1,0 +1,4 @@
+pub mod Clauses
+pub mod Unwinding
+pub mod Searches
+pub mod Machine
