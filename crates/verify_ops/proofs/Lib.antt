@@ -1,0 +1,4 @@
+pub mod Places
+pub mod Spellings
+pub mod Choices
+pub mod Judging

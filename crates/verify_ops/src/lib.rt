@@ -1,0 +1,14 @@
+//! One instruction's effect on the types on the stack (ECMA-335 III.1.8, part III).
+#![tactic(auto)]
+
+pub mod effect;
+pub mod facts;
+pub mod given;
+pub mod judge;
+pub mod law;
+pub mod members;
+pub mod row;
+pub mod spelling;
+pub mod table;
+pub mod typed;
+pub mod types;
