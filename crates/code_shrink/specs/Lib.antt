@@ -1,0 +1,5 @@
+pub mod Starts
+pub mod Steps
+pub mod Shrunk
+pub mod Limits
+pub mod Lines
