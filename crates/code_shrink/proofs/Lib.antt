@@ -13,3 +13,4 @@ pub mod Spelt
 pub mod Targets
 pub mod Ranges
 pub mod Written
+pub mod FileLines

@@ -3,3 +3,4 @@ pub mod Steps
 pub mod Shrunk
 pub mod Limits
 pub mod Lines
+pub mod FileLines

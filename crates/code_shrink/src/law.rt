@@ -1,13 +1,17 @@
 //! What the shortened code says.
 ghost use Rattle.std.specs.Prelude.{◌≡◌, ℕ, List, map, None};
 ghost use Rattle.cil_opcodes.specs.Rows.{row_of};
+ghost use Rattle.cil_code.specs.Walk.{code_fault};
+ghost use Rattle.file_tables.specs.Metadata.{MetadataPart};
 ghost use Rattle.assemblies.specs.Rows.{RawLine};
 ghost use Rattle.assemblies.specs.Chosen.{Choice, line_to};
 ghost use Rattle.assemblies.specs.Closed.{Each};
+ghost use Rattle.world_rows.specs.Lines.{lines_of as file_lines};
 ghost use Rattle.image_form.specs.Codes.{Meaning, Words, LinesFit, instrs_of, instrs_to, lines_of, long, short};
 ghost use Rattle.short_code.specs.Short.{to_short};
 ghost use Rattle.short_code.specs.Pieces.{pieces};
 ghost use Rattle.chosen_image.specs.Spells.{TargetsStart, AllDistancesFit};
+ghost use Rattle.code_shrink.specs.FileLines.{file_meaning};
 ghost use Rattle.code_shrink.specs.Limits.{far_in};
 ghost use Rattle.code_shrink.specs.Lines.{AreBytes, AllMeanTo, AllMeanBack, AllNumbered, rows_in, lines_in};
 ghost use Rattle.code_shrink.specs.Shrunk.{CanShrink, instrs_in, pieces_of, shrunk, shrunk_bytes};
@@ -18,6 +22,11 @@ ghost use Rattle.code_shrink.specs.Shrunk.{CanShrink, instrs_in, pieces_of, shru
 pub fn shrunk_code_is_read()
     ensures instructions { (token : ℕ → ℕ) (code : List ℕ) → AreBytes code → CanShrink code → far_in code ≡ None → instrs_of row_of short (shrunk_bytes token code) ≡ shrunk token code }
     ensures lines { (k : Choice) (before after : Meaning) (token : ℕ → ℕ) (code : List ℕ) → AreBytes code → CanShrink code → far_in code ≡ None → AllMeanTo k before after token (instrs_in code) → lines_of after short 0 (instrs_of row_of short (shrunk_bytes token code)) ≡ map (line_to k (to_short (pieces_of code))) (lines_in before code) }
+{}
+
+/// The lines that a file's code is seen as are those of the instructions that are shortened.
+pub fn file_lines_are_read()
+    ensures { (m : MetadataPart) (code : List ℕ) → AreBytes code → code_fault code ≡ None → file_lines m code ≡ lines_in (file_meaning m) code }
 {}
 
 /// The lines of code have a spelling, by words that find the numbers again: they fit, places in it are those of the code,

@@ -12,7 +12,7 @@ mod step;
 mod tiny;
 mod write;
 
-pub use law::{lines_are_spelt, shrunk_code_is_read};
+pub use law::{file_lines_are_read, lines_are_spelt, shrunk_code_is_read};
 pub use refusal::ShrinkRefusal;
 pub use renumber::Renumber;
 pub use size::length;
