@@ -59,6 +59,7 @@ opcode_is code at opcode e =
 pub record Parts (code : List ℕ) (at : ℕ) (instr : Instr) : Type 0 where
   pub opcode : Opcode
   pub row : Row
+  pub stands : opcode_at code at ≡ Some opcode
   pub is_opcode : IsOpcode code at opcode
   pub listed : row_of opcode.op ≡ Some row
   pub fits : at + opcode.len + operand_len row.operand code (at + opcode.len) ≤ length code
@@ -83,6 +84,7 @@ parts code at instr e =
     record {
       opcode = a.0;
       row = b.0;
+      stands = some_is _ _ a.0 a.1;
       is_opcode = opcode_is code at a.0 (some_is _ _ a.0 a.1);
       listed = some_is _ _ b.0 b.1;
       fits = len.0;

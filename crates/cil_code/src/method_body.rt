@@ -1,6 +1,6 @@
 //! Bodies of methods (II.25.4).
 
-ghost use Rattle.std.specs.Prelude.{◌≡◌, ◌<◌, length, IfOk, Some, slice_get};
+ghost use Rattle.std.specs.Prelude.{◌≡◌, ◌^◌, ◌<◌, length, IfOk, Some, slice_get};
 ghost use Rattle.cil_code.specs.Sections.{clauses_in};
 
 use crate::clause::Clause;
@@ -21,7 +21,7 @@ pub struct Body<'a> {
 }
 
 impl<'a> Model for Body<'a> {
-    ghost use Rattle.std.specs.Prelude.{◌≡◌, length};
+    ghost use Rattle.std.specs.Prelude.{◌≡◌, ◌^◌, ◌<◌, length};
     ghost use Rattle.cil_code.specs.Bodies.{BodyPart};
     ghost use Rattle.cil_code.specs.Sections.{clauses_in};
 
@@ -29,7 +29,7 @@ impl<'a> Model for Body<'a> {
 
     ghost view = { λ b. record { max_stack = b.max_stack; locals_token = b.locals_token; code = b.code.now; clauses = clauses_in b.sections.now } };
 
-    ghost invariant = { λ b. b.clause_count ≡ length (clauses_in b.sections.now) };
+    ghost invariant = { λ b. (b.clause_count ≡ length (clauses_in b.sections.now)) × (length b.code.now < 2 ^ 32) };
 }
 
 impl<'a> Body<'a> {
@@ -41,7 +41,8 @@ impl<'a> Body<'a> {
         sections: &'a [u8],
         clause_count: u32,
     ) -> Self
-        requires { clause_count ≡ length (clauses_in sections.now) }
+        requires counted { clause_count ≡ length (clauses_in sections.now) }
+        requires small { length code.now < 2 ^ 32 }
         ensures { result ≡ record { max_stack = max_stack; locals_token = locals_token; code = code.now; clauses = clauses_in sections.now } }
     {
         Body {
@@ -72,6 +73,13 @@ impl<'a> Body<'a> {
         ensures { result.now ≡ self.now.code }
     {
         self.code
+    }
+
+    /// The number of bytes of the instructions, the header's CodeSize.
+    pub fn code_size(&self) -> u32
+        ensures { result ≡ length self.now.code }
+    {
+        self.code.len() as u32
     }
 
     /// How many exception clauses there are.

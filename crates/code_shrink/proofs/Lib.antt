@@ -1,0 +1,16 @@
+pub mod Table
+pub mod Reading
+pub mod Walking
+pub mod Sizes
+pub mod Onto
+pub mod Found
+pub mod Copied
+pub mod Lie
+pub mod LineLaws
+pub mod Whole
+pub mod OnSteps
+pub mod Spelt
+pub mod Targets
+pub mod Ranges
+pub mod Written
+pub mod FileLines
