@@ -1,0 +1,13 @@
+pub mod Moves
+pub mod HeaderLaws
+pub mod PartLaws
+pub mod MarkLaws
+pub mod TokenLaws
+pub mod SigLaws
+pub mod EntryLaws
+pub mod ReadLaws
+pub mod KnownLaws
+pub mod LieLaws
+pub mod SeenLaws
+pub mod BodyLaws
+pub mod ImageLaws

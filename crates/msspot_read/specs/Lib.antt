@@ -1,0 +1,11 @@
+pub mod Places
+pub mod Rows
+pub mod Inside
+pub mod Forms
+pub mod After
+pub mod Entry
+pub mod Marked
+pub mod Columns
+pub mod Held
+pub mod InsideKnown
+pub mod Lying
