@@ -34,12 +34,12 @@ head whole version name entry rows bytes rest =
 pub head_before : (whole : ℕ) (version : List ℕ) (name entry : ℕ) (rows bytes : List ℕ) → Before (head whole version name entry rows bytes)
 head_before whole version name entry rows bytes =
     then_before (λ r. all_onto byte_onto marker (word_onto (whole % 65536) (word_onto (whole / 65536) r))) (λ r. words_onto version (word_onto name (word_onto entry (words_onto rows (words_onto bytes (word_onto 0 r))))))
-      (λ r. refl)
-      (then_before (words_onto version) (λ r. word_onto name (word_onto entry (words_onto rows (words_onto bytes (word_onto 0 r)))))
-        (words_before version)
-        (then_before (λ r. word_onto name (word_onto entry r)) (λ r. words_onto rows (words_onto bytes (word_onto 0 r)))
-          (λ r. refl)
-          (then_before (words_onto rows) (λ r. words_onto bytes (word_onto 0 r)) (words_before rows) (then_before (words_onto bytes) (word_onto 0) (words_before bytes) (λ r. refl)))))
+    (λ r. refl)
+    (then_before (words_onto version) (λ r. word_onto name (word_onto entry (words_onto rows (words_onto bytes (word_onto 0 r)))))
+    (words_before version)
+    (then_before (λ r. word_onto name (word_onto entry r)) (λ r. words_onto rows (words_onto bytes (word_onto 0 r)))
+    (λ r. refl)
+    (then_before (words_onto rows) (λ r. words_onto bytes (word_onto 0 r)) (words_before rows) (then_before (words_onto bytes) (word_onto 0) (words_before bytes) (λ r. refl)))))
 
 abbrev pub pools_rest : List (List ℕ) → List ℕ → List ℕ
 pools_rest pools rest = all_onto (λ pool more. all_onto byte_onto pool more) pools rest
@@ -53,18 +53,18 @@ pools_joined ps cs z =
     ∙ append_assoc a (b ++ (cs ++ d)) z
     ∙ ap (λ ys. a ++ ys) (append_assoc b (cs ++ d) z ∙ ap (λ ys. b ++ ys) (append_assoc cs d z))
     ∙ sym
-      (bytes_before a (all_onto byte_onto b (all_onto byte_onto cs (all_onto byte_onto d z)))
-      ∙ ap (λ ys. a ++ ys)
-        (bytes_before b (all_onto byte_onto cs (all_onto byte_onto d z))
-        ∙ ap (λ ys. b ++ ys) (bytes_before cs (all_onto byte_onto d z) ∙ ap (λ ys. cs ++ ys) (bytes_before d z))))
+    (bytes_before a (all_onto byte_onto b (all_onto byte_onto cs (all_onto byte_onto d z)))
+    ∙ ap (λ ys. a ++ ys)
+    (bytes_before b (all_onto byte_onto cs (all_onto byte_onto d z))
+    ∙ ap (λ ys. b ++ ys) (bytes_before cs (all_onto byte_onto d z) ∙ ap (λ ys. cs ++ ys) (bytes_before d z))))
 
 module _ (p : Parts) (cs : List (List ℕ)) where
   -- all of it, by pools, counts and size
   image_by : PoolsOf → List ℕ → List ℕ → ℕ → ℕ → List ℕ
   image_by ps rows bytes whole name =
       head whole p.version name p.entry rows bytes
-        (all_onto table_onto (tables_words ps p cs 0 tables)
-        (pools_rest (pool_onto ps.strings [] ∷ pool_onto ps.signatures [] ∷ flat_map (λ c. c) cs ∷ ps.data_pool ∷ []) (zeros_onto (padding (unpadded rows bytes)) [])))
+      (all_onto table_onto (tables_words ps p cs 0 tables)
+      (pools_rest (pool_onto ps.strings [] ∷ pool_onto ps.signatures [] ∷ flat_map (λ c. c) cs ∷ ps.data_pool ∷ []) (zeros_onto (padding (unpadded rows bytes)) [])))
 
   pushed_all : (ps : PoolsOf) (rows bytes : List ℕ) (whole name : ℕ) (a b d e : List ℕ)
       → a ≡ head whole p.version name p.entry rows bytes []

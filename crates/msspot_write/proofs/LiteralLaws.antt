@@ -1,10 +1,10 @@
 -- A literal is in the pool exactly where the parts have it.
-use Rattle.std.proofs.Common.{◌≡◌, ℕ, Bool, true, false, ◌||◌, List, [], ◌∷◌, ◌++◌, map, refl, sym, ap, ◌∙◌}
+use Rattle.std.proofs.Common.{◌≡◌, ℕ, Bool, false, ◌||◌, List, [], ◌∷◌, map, refl, ap, ◌∙◌}
 use Rattle.std.specs.Prelude.{is_some}
 use Rattle.std.specs.List.{list_any, flat_map}
 use Rattle.std.proofs.lemmas.List.Folds.{list_any-append}
 use Rattle.machine.specs.Texts.{same_text}
-use Rattle.image_pools.specs.Pools.{Entry, same_entry}
+use Rattle.image_pools.specs.Pools.{same_entry}
 use Rattle.msspot_write.specs.declared.parts.Column.{Column}
 use Rattle.msspot_write.specs.declared.parts.Column.TheVariants.{Number, Name, Signature, Data, Code}
 use Rattle.msspot_write.specs.declared.parts.PartRow.{PartRow}
@@ -29,8 +29,8 @@ module _ (text : List ℕ) where
   no_names : (p : Parts) → list_any (same_entry (literal_of text)) (in_tables names p tables) ≡ false
   no_names p =
       none_in (same_entry (literal_of text)) (λ t. in_rows names (rows_of p t))
-        (λ t. none_in (same_entry (literal_of text)) (in_row names) (λ (r : PartRow). none_in (same_entry (literal_of text)) names no_name r.columns) (rows_of p t))
-        tables
+      (λ t. none_in (same_entry (literal_of text)) (in_row names) (λ (r : PartRow). none_in (same_entry (literal_of text)) names no_name r.columns) (rows_of p t))
+      tables
 
   literals_any : (ls : List PartLiteral) → list_any (same_entry (literal_of text)) (map (λ (l : PartLiteral). literal_of l.text) ls) ≡ list_any (λ (l : PartLiteral). same_text text l.text) ls
   literals_any [] = refl

@@ -1,24 +1,23 @@
 -- The image of the parts that spell rows is the image that is laid for the rows.
-use Rattle.std.proofs.Common.{◌≡◌, ℕ, ◌+◌, Bool, true, false, List, [], ◌∷◌, ◌++◌, map, length, Option, Some, None, refl, sym, ap, ◌∙◌, append_assoc, arith}
+use Rattle.std.proofs.Common.{◌≡◌, ℕ, ◌+◌, Bool, true, false, List, [], ◌∷◌, ◌++◌, map, length, Option, Some, None, refl, ap, ◌∙◌, append_assoc, arith}
 use Rattle.std.specs.Prelude.{drop, if◌then◌else◌}
 use Rattle.std.specs.List.{flat_map}
 use Rattle.std.proofs.lemmas.List.{append-nil, map-append}
 use Rattle.machine.specs.Program.{Body, native_number}
 use Rattle.classes.specs.Classes.{FieldKind}
 use Rattle.assemblies.specs.Chosen.{first_of}
-use Rattle.assemblies.specs.Rows.{TypeToken, RawType, AssemblyRow, TypeRefRow, FieldRefRow, MethodRefRow, TypeRow, FieldRow, RawOperand, RawNothing, RawNumber, RawTargets, RawTypeOf, RawField, RawMethod, RawText, RawLine, RawKind, RawCatch, RawFinally, RawOther, RawClause, RawCode, MethodRow, Assembly}
+use Rattle.assemblies.specs.Rows.{RawType, AssemblyRow, TypeRefRow, FieldRefRow, MethodRefRow, TypeRow, FieldRow, RawOperand, RawNothing, RawNumber, RawTargets, RawTypeOf, RawField, RawMethod, RawText, RawLine, RawKind, RawCatch, RawFinally, RawOther, RawClause, RawCode, MethodRow, Assembly}
 use Rattle.image_bytes.specs.Layout.{Image}
-use Rattle.image_pools.specs.Pools.{Entry, pool, offset, pool_onto}
-use Rattle.image_form.specs.Signatures.{type_word, raw_onto, signature_onto, locals_onto}
-use Rattle.image_form.specs.Form.{or_none, type_flags, method_flags, is_native, scope_word, Offsets, Manner, raw_word, signature_word, locals_word, assembly_row, ref_row, field_ref_row, method_ref_row, type_row, type_rows, interface_row, field_words, field_row, field_rows, clause_words, clause_row, spec_row, body_words, method_row, method_rows, bytes_in, clauses_in, data_of, data_rows}
-use Rattle.image_form.specs.Whole.{name_entry, literal_entry, signature_entry, literals, literals_in, locals_entry, Methods, strings_walk, signatures_walk, offsets, interfaces_of, clauses_of, datas_of, laid}
+use Rattle.image_pools.specs.Pools.{pool, offset, pool_onto}
+use Rattle.image_form.specs.Signatures.{raw_onto, signature_onto, locals_onto}
+use Rattle.image_form.specs.Form.{or_none, method_flags, is_native, Offsets, Manner, raw_word, signature_word, locals_word, assembly_row, ref_row, field_ref_row, method_ref_row, type_row, type_rows, interface_row, field_words, field_row, field_rows, clause_words, clause_row, spec_row, body_words, method_rows, bytes_in, clauses_in, data_of, data_rows}
+use Rattle.image_form.specs.Whole.{name_entry, literal_entry, signature_entry, literals, literals_in, locals_entry, Methods, strings_walk, signatures_walk, interfaces_of, clauses_of, datas_of, laid}
 use Rattle.msspot_write.specs.declared.parts.Column.{Column}
-use Rattle.msspot_write.specs.declared.parts.Column.TheVariants.{Number, Name, Signature, Data, Code}
+use Rattle.msspot_write.specs.declared.parts.Column.TheVariants.{Number, Signature, Code}
 use Rattle.msspot_write.specs.declared.parts.PartRow.{PartRow}
 use Rattle.msspot_write.specs.declared.parts.PartLiteral.{PartLiteral}
-use Rattle.msspot_write.specs.declared.parts.Parts.{Parts}
 use Rattle.msspot_write.specs.Parts.{rows_of, tables, in_row, in_rows, in_tables, names, signatures, data_bytes, literal_of, strings_walk_of, signatures_walk_of, PoolsOf, pools_of, next_code, row_words, table_words, tables_words, image_of_parts}
-use Rattle.msspot_write.specs.Spelt.{row_with, numbers, raw_column, assembly_part, ref_part, field_ref_part, method_ref_part, type_part, type_parts, interface_part, field_numbers, field_part, field_parts, locals_column, body_columns, method_part, method_parts, clause_numbers, clause_part, spec_part, data_part, operand_parts, code_parts, literal_parts, parts_for, codes_for, BodyFits, BodiesFit}
+use Rattle.msspot_write.specs.Spelt.{numbers, assembly_part, ref_part, field_ref_part, method_ref_part, type_part, type_parts, interface_part, field_numbers, field_part, field_parts, locals_column, body_columns, method_part, method_parts, clause_numbers, clause_part, spec_part, data_part, operand_parts, code_parts, literal_parts, parts_for, codes_for, BodyFits, BodiesFit}
 
 both : {A : Type 0} {x y : A} {xs ys : List A} → x ≡ y → xs ≡ ys → x ∷ xs ≡ y ∷ ys
 both p q = λ i. p i ∷ q i
@@ -90,9 +89,9 @@ module _ (ps : PoolsOf) where
   methods_law start at clause (x ∷ xs) fit =
       let m : MethodRow = x.1 in
       both
-        (ap (λ ws. offset ps.strings (name_entry m.name) ∷ signature_word (offsets_of ps) m.signature ∷ method_flags m.is_static m.is_virtual m.is_newslot m.is_abstract (is_native m.body) ∷ ws)
-          (body_law start (at + 0 + 0 + 0) clause x.0 m.body m.code fit.0))
-        (methods_law (start + length (bytes_in (offsets_of ps) x.0 m.code)) (at + length (in_row data_bytes (method_part clause x.0 m))) (clause + length (clauses_in m.code)) xs fit.1)
+      (ap (λ ws. offset ps.strings (name_entry m.name) ∷ signature_word (offsets_of ps) m.signature ∷ method_flags m.is_static m.is_virtual m.is_newslot m.is_abstract (is_native m.body) ∷ ws)
+      (body_law start (at + 0 + 0 + 0) clause x.0 m.body m.code fit.0))
+      (methods_law (start + length (bytes_in (offsets_of ps) x.0 m.code)) (at + length (in_row data_bytes (method_part clause x.0 m))) (clause + length (clauses_in m.code)) xs fit.1)
 
   clause_kind_law : (k : RawKind) (places : List ℕ) → clause_numbers k places ≡ clause_words (offsets_of ps) k ++ places
   clause_kind_law (RawCatch t) places = refl
@@ -108,8 +107,8 @@ module _ (ps : PoolsOf) where
   datas_law codes start at [] = refl
   datas_law codes start at (d ∷ ds) =
       ap (λ ws. (at ∷ length d ∷ []) ∷ ws)
-        (ap (λ (l : List ℕ). table_words ps (drop 1 codes) (start + length (next_code codes)) (at + length l) (map data_part ds)) (append-nil d)
-        ∙ datas_law (drop 1 codes) (start + length (next_code codes)) (at + length d) ds)
+      (ap (λ (l : List ℕ). table_words ps (drop 1 codes) (start + length (next_code codes)) (at + length l) (map data_part ds)) (append-nil d)
+      ∙ datas_law (drop 1 codes) (start + length (next_code codes)) (at + length d) ds)
 
 -- ---- walks
 
@@ -267,12 +266,12 @@ regroup : {A : Type 0} (a b c d e f g l : List A) → (a ++ (b ++ (c ++ (d ++ (e
 regroup a b c d e f g l =
     append_assoc a (b ++ (c ++ (d ++ (e ++ (f ++ (g ++ [])))))) l
     ∙ ap (λ ys. a ++ ys)
-      (append_assoc b (c ++ (d ++ (e ++ (f ++ (g ++ []))))) l
-      ∙ ap (λ ys. b ++ ys)
-        (append_assoc c (d ++ (e ++ (f ++ (g ++ [])))) l
-        ∙ ap (λ ys. c ++ ys)
-          (append_assoc d (e ++ (f ++ (g ++ []))) l
-          ∙ ap (λ ys. d ++ ys) (append_assoc e (f ++ (g ++ [])) l ∙ ap (λ ys. e ++ ys) (append_assoc f (g ++ []) l ∙ ap (λ ys. f ++ ys) (append_assoc g [] l))))))
+    (append_assoc b (c ++ (d ++ (e ++ (f ++ (g ++ []))))) l
+    ∙ ap (λ ys. b ++ ys)
+    (append_assoc c (d ++ (e ++ (f ++ (g ++ [])))) l
+    ∙ ap (λ ys. c ++ ys)
+    (append_assoc d (e ++ (f ++ (g ++ []))) l
+    ∙ ap (λ ys. d ++ ys) (append_assoc e (f ++ (g ++ [])) l ∙ ap (λ ys. e ++ ys) (append_assoc f (g ++ []) l ∙ ap (λ ys. f ++ ys) (append_assoc g [] l))))))
 
 module _ (p : Assembly) (ms : Methods) where
   tables_names : in_tables names (parts_for p ms) tables
@@ -299,16 +298,16 @@ module _ (p : Assembly) (ms : Methods) where
   strings_law : strings_walk_of (parts_for p ms) ≡ strings_walk p ms
   strings_law =
       ap (λ es. name_entry p.name ∷ es)
-        (joins tables_names (literals_law 0 ms)
-        ∙ regroup
-          (map (λ (a : AssemblyRow). name_entry a.name) p.assemblies)
-          (flat_map (λ (r : TypeRefRow). name_entry r.namespace ∷ name_entry r.name ∷ []) p.refs)
-          (map (λ (r : FieldRefRow). name_entry r.name) p.field_refs)
-          (map (λ (r : MethodRefRow). name_entry r.name) p.method_refs)
-          (flat_map (λ (t : TypeRow). name_entry t.namespace ∷ name_entry t.name ∷ []) p.types)
-          (map (λ (f : FieldRow). name_entry f.name) p.fields)
-          (map (λ (x : Manner × MethodRow). name_entry x.1.name) ms)
-          (flat_map (λ (x : Manner × MethodRow). literals_in x.1.code) ms))
+      (joins tables_names (literals_law 0 ms)
+      ∙ regroup
+      (map (λ (a : AssemblyRow). name_entry a.name) p.assemblies)
+      (flat_map (λ (r : TypeRefRow). name_entry r.namespace ∷ name_entry r.name ∷ []) p.refs)
+      (map (λ (r : FieldRefRow). name_entry r.name) p.field_refs)
+      (map (λ (r : MethodRefRow). name_entry r.name) p.method_refs)
+      (flat_map (λ (t : TypeRow). name_entry t.namespace ∷ name_entry t.name ∷ []) p.types)
+      (map (λ (f : FieldRow). name_entry f.name) p.fields)
+      (map (λ (x : Manner × MethodRow). name_entry x.1.name) ms)
+      (flat_map (λ (x : Manner × MethodRow). literals_in x.1.code) ms))
 
   module _ (fit : BodiesFit ms) where
     signatures_law : signatures_walk_of (parts_for p ms) ≡ signatures_walk p ms
@@ -325,7 +324,7 @@ module _ (p : Assembly) (ms : Methods) where
         (joins (rows_one signatures spec_part (λ (s : RawType). signature_entry (raw_onto s [])) (λ s. refl) p.specs)
         (joins (rows_none signatures data_part (λ d. refl) (datas_of p)) refl))))))))))
         ∙ ap (λ es. map (λ (r : FieldRefRow). signature_entry (raw_onto r.signature [])) p.field_refs ++ (map (λ (r : MethodRefRow). signature_entry (signature_onto r.signature [])) p.method_refs ++ (map (λ (f : FieldRow). signature_entry (raw_onto f.signature [])) p.fields ++ (flat_map (λ (x : Manner × MethodRow). signature_entry (signature_onto x.1.signature []) ∷ locals_entry x.0 x.1.code) ms ++ es))))
-          (append-nil (map (λ (s : RawType). signature_entry (raw_onto s [])) p.specs))
+        (append-nil (map (λ (s : RawType). signature_entry (raw_onto s [])) p.specs))
 
     -- no table before the last has data
     before_data : (t : ℕ) → in_rows data_bytes (rows_of (parts_for p ms) t) ≡ [] → length (in_rows data_bytes (rows_of (parts_for p ms) t)) ≡ 0
@@ -424,10 +423,10 @@ module _ (p : Assembly) (ms : Methods) where
         let ps = spelt_pools in
         ap image_by pools_law
         ∙ (λ i.
-          record {
-            version = p.version;
-            name = offset ps.strings (name_entry p.name);
-            entry = or_none (λ n. n) p.entry;
-            tables = tables_law ps i;
-            pools = pool_onto ps.strings [] ∷ pool_onto ps.signatures [] ∷ codes_law (offsets_of ps) ms i ∷ ps.data_pool ∷ [];
-          })
+        record {
+          version = p.version;
+          name = offset ps.strings (name_entry p.name);
+          entry = or_none (λ n. n) p.entry;
+          tables = tables_law ps i;
+          pools = pool_onto ps.strings [] ∷ pool_onto ps.signatures [] ∷ codes_law (offsets_of ps) ms i ∷ ps.data_pool ∷ [];
+        })

@@ -1,5 +1,5 @@
 -- One more column, row and table that is written, and what is left.
-use Rattle.std.proofs.Common.{◌≡◌, ℕ, zero, suc, ◌+◌, ◌<◌, ◌≤◌, List, [], ◌∷◌, ◌++◌, length, take, drop, get_or, refl, sym, ap, ◌∙◌, append_assoc, arith, add-one, length-append}
+use Rattle.std.proofs.Common.{◌≡◌, ℕ, zero, suc, ◌+◌, ◌<◌, ◌≤◌, List, [], ◌∷◌, ◌++◌, length, drop, get_or, refl, sym, ap, ◌∙◌, append_assoc, arith, add-one, length-append}
 use Rattle.std.specs.List.{flat_map}
 use Rattle.std.specs.Global.{Vec}
 use Rattle.std.proofs.Math.Seq.{drop-cons}
@@ -9,9 +9,9 @@ use Rattle.image_bytes.specs.Layout.{words_onto, table_onto, all_onto}
 use Rattle.msspot_write.specs.declared.parts.Column.{Column}
 use Rattle.msspot_write.specs.declared.parts.PartRow.{PartRow}
 use Rattle.msspot_write.specs.declared.parts.Parts.{Parts}
-use Rattle.msspot_write.specs.Parts.{PoolsOf, rows_of, in_row, in_rows, in_tables, data_bytes, next_code, column_words, row_words, table_words, tables_words}
+use Rattle.msspot_write.specs.Parts.{PoolsOf, rows_of, in_row, in_rows, data_bytes, next_code, column_words, row_words, table_words, tables_words}
 use Rattle.msspot_write.specs.Written.{codes_of}
-use Rattle.msspot_write.proofs.OntoLaws.{words_before, table_before, tables_before, words_both}
+use Rattle.msspot_write.proofs.OntoLaws.{words_before, table_before, words_both}
 
 -- the elements from a place on
 pub drop_step : {X : Type 0} (xs : List X) (i : ℕ) (x : X) → i < length xs → x ≡ get_or xs i x → drop i xs ≡ x ∷ drop (i + 1) xs

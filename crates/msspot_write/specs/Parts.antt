@@ -1,5 +1,5 @@
 -- What the parts of one assembly are written as: its pools, its image, and the first limit that they pass.
-use Rattle.std.specs.Prelude.{ℕ, suc, ◌+◌, ◌*◌, Bool, nat_eq, nat_lt, if◌then◌else◌, List, [], ◌∷◌, ◌++◌, map, length, drop, Option, Some, None, slice_get, unwrap_or}
+use Rattle.std.specs.Prelude.{ℕ, ◌+◌, nat_eq, nat_lt, if◌then◌else◌, List, [], ◌∷◌, ◌++◌, map, length, drop, Option, Some, None, slice_get, unwrap_or}
 use Rattle.std.specs.List.{flat_map, list_any}
 use Rattle.plain_types.specs.declared.fault.Limit.{Limit}
 use Rattle.image_bytes.specs.Layout.{Image, counts_of, lengths_of}

@@ -40,11 +40,11 @@ method_ref_part r = row_with (Number (type_word r.parent) ∷ Name r.name ∷ Si
 abbrev pub type_part : ℕ → TypeRow → PartRow
 type_part at t =
     row_with (
-      Name t.namespace
-      ∷ Name t.name
-      ∷ numbers (
-          or_none (λ n. n) t.enclosing ∷ or_none type_word t.extends ∷ type_flags t.kind t.is_interface t.is_abstract t.is_lazy
-          ∷ first_of at (length t.interfaces) ∷ length t.interfaces ∷ t.first_field ∷ t.field_count ∷ t.first_method ∷ t.method_count ∷ []))
+    Name t.namespace
+    ∷ Name t.name
+    ∷ numbers (
+    or_none (λ n. n) t.enclosing ∷ or_none type_word t.extends ∷ type_flags t.kind t.is_interface t.is_abstract t.is_lazy
+    ∷ first_of at (length t.interfaces) ∷ length t.interfaces ∷ t.first_field ∷ t.field_count ∷ t.first_method ∷ t.method_count ∷ []))
 
 abbrev pub type_parts : ℕ → List TypeRow → List PartRow
 type_parts at [] = []
@@ -81,10 +81,10 @@ body_columns clause k body (Some c) =
 abbrev pub method_part : ℕ → Manner → MethodRow → PartRow
 method_part clause k m =
     row_with (
-      Name m.name
-      ∷ Signature (signature_onto m.signature [])
-      ∷ Number (method_flags m.is_static m.is_virtual m.is_newslot m.is_abstract (is_native m.body))
-      ∷ body_columns clause k m.body m.code)
+    Name m.name
+    ∷ Signature (signature_onto m.signature [])
+    ∷ Number (method_flags m.is_static m.is_virtual m.is_newslot m.is_abstract (is_native m.body))
+    ∷ body_columns clause k m.body m.code)
 
 abbrev pub method_parts : ℕ → Methods → List PartRow
 method_parts clause [] = []

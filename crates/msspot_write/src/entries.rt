@@ -117,13 +117,7 @@ impl Starts {
     }
 
     /// Notes where a text starts.
-    fn note(
-        &mut self,
-        alloc: Global,
-        kind: Kind,
-        text: &[u8],
-        start: u32,
-    ) -> Result<(), NoMemory>
+    fn note(&mut self, alloc: Global, kind: Kind, text: &[u8], start: u32) -> Result<(), NoMemory>
         ensures { OnOk result ((of : Kind) (other : List ℕ) → start_of self.new of other ≡ (if same_entry (entry_of of other) (entry_of kind text.now) then Some start else start_of self.old of other)) }
     {
         match kind {

@@ -72,11 +72,7 @@ impl Gathered {
     }
 
     /// Takes up the literals.
-    pub fn add_literals(
-        &mut self,
-        alloc: Global,
-        literals: &[PartLiteral],
-    ) -> Result<(), NoMemory>
+    pub fn add_literals(&mut self, alloc: Global, literals: &[PartLiteral]) -> Result<(), NoMemory>
         requires { IsSound self.old }
         ensures { OnOk result (Grows self.old self.new (map (λ (l : PartLiteral). literal_of l.text) literals.now) [] []) }
     {

@@ -11,7 +11,7 @@ pub mod pooling;
 pub mod writer;
 
 pub use counts::WriteRefusal;
-pub use parts::{Column, PartLiteral, PartRow, Parts};
 pub use make::pools;
+pub use parts::{Column, PartLiteral, PartRow, Parts};
 pub use pooling::Pools;
 pub use writer::write;

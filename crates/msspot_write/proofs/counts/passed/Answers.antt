@@ -1,5 +1,4 @@
-use Rattle.std.proofs.Common.{◌≡◌, Some, None, ◌+◌, length, sym, ◌∙◌, arith}
-use Rattle.msspot_write.specs.Parts.{first_over}
+use Rattle.std.proofs.Common.{sym, ◌∙◌, arith}
 use Rattle.msspot_write.proofs.CountLaws.{over_first, over_second}
 use Rattle.msspot_write.proofs.counts.passed.Goals as goal
 

@@ -1,4 +1,4 @@
-use Rattle.std.proofs.Common.{◌≡◌, ◌+◌, ◌*◌, ◌<◌, ◌≤◌, drop, get_or, length, sym, ap, ◌∙◌, arith}
+use Rattle.std.proofs.Common.{◌≡◌, ◌+◌, ◌*◌, ◌≤◌, drop, get_or, sym, ap, ◌∙◌, arith}
 use Rattle.image_bytes.specs.Layout.{widths, total}
 use Rattle.msspot_write.proofs.CountLaws.{total_step, total_small, below_total, on_total, half_below}
 use Rattle.msspot_write.proofs.counts.tables_size.Goals as goal

@@ -1,9 +1,9 @@
-use Rattle.std.proofs.Common.{◌≡◌, ◌+◌, ◌-◌, ◌%◌, [], ◌++◌, replicate, ap, ◌∙◌, arith}
+use Rattle.std.proofs.Common.{◌≡◌, ◌+◌, [], ◌++◌, replicate, ap, ◌∙◌, arith}
 use Rattle.image_bytes.specs.Layout.{unpadded, padding}
 use Rattle.image_form.specs.Whole.{name_entry}
 use Rattle.image_pools.specs.Pools.{offset}
 use Rattle.msspot_write.specs.Written.{codes_of}
-use Rattle.msspot_write.proofs.ImageLaws.{Small, are_small, head, image_pushed}
+use Rattle.msspot_write.proofs.ImageLaws.{are_small, head, image_pushed}
 use Rattle.msspot_write.proofs.writer.image_bytes.Goals as goal
 
 pub push_header-requires-clause-name : goal.push_header-requires-clause-name
@@ -41,11 +41,11 @@ returns c =
     let name = c.name-name.result in
     let sized : size ≡ unpadded rows bytes = c.size-size.ensures.size in
     image_pushed p cs ps rows bytes whole name
-      c.push_header.new.out.items c.push_tables.new.out.items c.push_pools.new.out.items c.push_zeros.new.out.items
-      c.requires.pools c.requires.rows c.requires.bytes
-      (ap (λ n. n + padding n) sized)
-      (c.name-name.ensures.offset ∙ ap (λ t. offset ps.strings (name_entry t)) c.as_slice.ensures)
-      (c.in_ok-push_header.ensures ∙ ap (λ ys. ys ++ head whole p.version name p.entry rows bytes []) c.in_ok-out.ensures.items)
-      c.in_ok-push_tables.ensures
-      c.in_ok-push_pools.ensures
-      (c.in_ok-push_zeros.ensures ∙ ap (λ n. c.push_pools.new.out.items ++ replicate (padding n) 0) sized)
+    c.push_header.new.out.items c.push_tables.new.out.items c.push_pools.new.out.items c.push_zeros.new.out.items
+    c.requires.pools c.requires.rows c.requires.bytes
+    (ap (λ n. n + padding n) sized)
+    (c.name-name.ensures.offset ∙ ap (λ t. offset ps.strings (name_entry t)) c.as_slice.ensures)
+    (c.in_ok-push_header.ensures ∙ ap (λ ys. ys ++ head whole p.version name p.entry rows bytes []) c.in_ok-out.ensures.items)
+    c.in_ok-push_tables.ensures
+    c.in_ok-push_pools.ensures
+    (c.in_ok-push_zeros.ensures ∙ ap (λ n. c.push_pools.new.out.items ++ replicate (padding n) 0) sized)

@@ -1,4 +1,4 @@
-use Rattle.std.proofs.Common.{◌≡◌, ◌≤◌, [], ◌++◌, get_or, take, length, sym, ap, ◌∙◌, arith}
+use Rattle.std.proofs.Common.{◌≤◌, [], ◌++◌, take, length, ap, ◌∙◌, arith}
 use Rattle.image_pools.specs.Pools.{entry_onto, pool_onto}
 use Rattle.msspot_write.proofs.EntryLaws.{entry_small}
 use Rattle.msspot_write.proofs.OntoLaws.{more_onto, entry_before, entry_pushed}

@@ -26,14 +26,14 @@ returns c =
     let r3 = word_onto (c.args.size / 65536) r4 in
     let r2 = word_onto (c.args.size % 65536) r3 in
     on_ok_weaker c.push_word-2.result
-      (λ last.
-        last
-        ∙ pushed (words_onto bytes) (words_before bytes) h k r9 c.in_ok-push_counts-2.ensures
-        ∙ pushed (words_onto rows) (words_before rows) g h r8 c.in_ok-push_counts.ensures
-        ∙ pushed (word_onto c.args.parts.now.entry) (λ r. refl) f g r7 c.in_ok-push_word.ensures
-        ∙ pushed (word_onto c.args.name) (λ r. refl) e f r6 c.in_ok-push_number-3.ensures
-        ∙ pushed (words_onto version) (words_before version) d e r5 c.in_ok-push_words.ensures
-        ∙ pushed (word_onto (c.args.size / 65536)) (λ r. refl) b d r4 c.in_ok-push_number-2.ensures
-        ∙ pushed (word_onto (c.args.size % 65536)) (λ r. refl) a b r3 c.in_ok-push_number.ensures
-        ∙ pushed (λ r. all_onto byte_onto marker r) (λ r. refl) c.args.out.now.items a r2 c.in_ok-push_bytes.ensures)
-      c.push_word-2.ensures
+    (λ last.
+    last
+    ∙ pushed (words_onto bytes) (words_before bytes) h k r9 c.in_ok-push_counts-2.ensures
+    ∙ pushed (words_onto rows) (words_before rows) g h r8 c.in_ok-push_counts.ensures
+    ∙ pushed (word_onto c.args.parts.now.entry) (λ r. refl) f g r7 c.in_ok-push_word.ensures
+    ∙ pushed (word_onto c.args.name) (λ r. refl) e f r6 c.in_ok-push_number-3.ensures
+    ∙ pushed (words_onto version) (words_before version) d e r5 c.in_ok-push_words.ensures
+    ∙ pushed (word_onto (c.args.size / 65536)) (λ r. refl) b d r4 c.in_ok-push_number-2.ensures
+    ∙ pushed (word_onto (c.args.size % 65536)) (λ r. refl) a b r3 c.in_ok-push_number.ensures
+    ∙ pushed (λ r. all_onto byte_onto marker r) (λ r. refl) c.args.out.now.items a r2 c.in_ok-push_bytes.ensures)
+    c.push_word-2.ensures

@@ -21,11 +21,11 @@ returns c =
     let d = c.push_codes.new.out.items in
     let rest = ps.data_pool in
     on_ok_weaker c.push_bytes.result
-      (λ last.
-        last
-        ∙ ap (λ bs. d ++ bs) c.data_pool.ensures
-        ∙ ap (λ ys. ys ++ rest) c.in_ok-push_codes.ensures
-        ∙ append_assoc b codes rest
-        ∙ pushed (pool_onto ps.signatures) (pool_before ps.signatures) a b (codes ++ rest) (c.in_ok-push_entries-2.ensures ∙ ap (λ es. a ++ pool_onto es []) c.signature_entries.ensures)
-        ∙ pushed (pool_onto ps.strings) (pool_before ps.strings) c.args.out.now.items a (pool_onto ps.signatures (codes ++ rest)) (c.in_ok-push_entries.ensures ∙ ap (λ es. c.args.out.now.items ++ pool_onto es []) c.string_entries.ensures))
-      c.push_bytes.ensures
+    (λ last.
+    last
+    ∙ ap (λ bs. d ++ bs) c.data_pool.ensures
+    ∙ ap (λ ys. ys ++ rest) c.in_ok-push_codes.ensures
+    ∙ append_assoc b codes rest
+    ∙ pushed (pool_onto ps.signatures) (pool_before ps.signatures) a b (codes ++ rest) (c.in_ok-push_entries-2.ensures ∙ ap (λ es. a ++ pool_onto es []) c.signature_entries.ensures)
+    ∙ pushed (pool_onto ps.strings) (pool_before ps.strings) c.args.out.now.items a (pool_onto ps.signatures (codes ++ rest)) (c.in_ok-push_entries.ensures ∙ ap (λ es. c.args.out.now.items ++ pool_onto es []) c.string_entries.ensures))
+    c.push_bytes.ensures

@@ -43,7 +43,7 @@ loop-number-preserved c =
     record {
       done =
           column_step c.args.pools.now c.args.code.start c.args.code.count i c.loop-number.next (c.loop-number.next + c.data_len.result) cols x c.loop-number.out.items c.push_column.new.out.items below is
-            (ap (λ n. c.loop-number.next + n) c.data_len.ensures) c.in_ok-push_column.ensures
+          (ap (λ n. c.loop-number.next + n) c.data_len.ensures) c.in_ok-push_column.ensures
           ∙ c.loop-number.invariant.done;
       room = omega (arith, c.data_len.ensures, c.loop-number.invariant.room, less_left data_bytes cols i x below is);
     }

@@ -39,9 +39,9 @@ loop-index-preserved c =
     record {
       done =
           row_step ps codes i s at (s + c.code_len-count.result) c.in_ok-next.next rows r out c.push_row.new.out.items below c.index-rows-index.is
-            (ap (λ n. s + n) c.code_len-count.ensures)
-            c.in_ok-next.ensures.next
-            (c.in_ok-next.ensures.out ∙ ap (λ n. out ++ words_onto (row_words ps s n 0 at r.columns) []) c.code_len-count.ensures)
+          (ap (λ n. s + n) c.code_len-count.ensures)
+          c.in_ok-next.ensures.next
+          (c.in_ok-next.ensures.out ∙ ap (λ n. out ++ words_onto (row_words ps s n 0 at r.columns) []) c.code_len-count.ensures)
           ∙ c.loop-index.invariant.done;
       room = omega (arith, c.in_ok-next.ensures.next, c.loop-index.invariant.room, less_left (in_row data_bytes) rows i r below c.index-rows-index.is);
       code = omega (arith, c.loop-index.invariant.code, less_code codes i, c.code_len-count.ensures);

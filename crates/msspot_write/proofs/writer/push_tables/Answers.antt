@@ -43,7 +43,7 @@ loop-table-preserved c =
     record {
       done =
           table_step ps p codes i at c.in_ok-at.at tables t out c.push_rows.new.out.items below is moved
-            (c.in_ok-at.ensures.out ∙ ap (λ (rs : List PartRow). out ++ table_onto (table_words ps codes 0 at rs) []) c.rows.ensures)
+          (c.in_ok-at.ensures.out ∙ ap (λ (rs : List PartRow). out ++ table_onto (table_words ps codes 0 at rs) []) c.rows.ensures)
           ∙ c.loop-table.invariant.done;
       room = room_next c.in_ok-at.at at here rest all moved split;
     }

@@ -12,5 +12,5 @@ loop-table-preserved c =
     let p = c.args.parts.now in
     let rows = rows_of p (get_or tables c.loop-table.table-index 0) in
     let call : Grows b d (in_rows names rows) (in_rows signatures rows) (in_rows data_bytes rows) =
-        subst (λ rs. Grows b d (in_rows names rs) (in_rows signatures rs) (in_rows data_bytes rs)) c.rows.ensures c.in_ok-add_rows.ensures in
+    subst (λ rs. Grows b d (in_rows names rs) (in_rows signatures rs) (in_rows data_bytes rs)) c.rows.ensures c.in_ok-add_rows.ensures in
     grows_step (λ t. in_rows names (rows_of p t)) (λ t. in_rows signatures (rows_of p t)) (λ t. in_rows data_bytes (rows_of p t)) tables c.loop-table.table-index 0 a b d (omega arith) c.loop-table.invariant call
