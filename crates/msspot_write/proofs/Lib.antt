@@ -1,0 +1,9 @@
+mod CountLaws
+mod EntryLaws
+mod GatherLaws
+mod ImageLaws
+mod LiteralLaws
+mod MapLaws
+mod OntoLaws
+mod SpeltLaws
+mod StepLaws

@@ -1,0 +1,6 @@
+pub mod Gathers
+pub mod Kinds
+pub mod Parts
+pub mod Spelt
+pub mod Starts
+pub mod Written
