@@ -2,7 +2,7 @@ use base_lib::files::files;
 use cil_build::build::{Build, BuildRefusal};
 use cil_build::refs::RefRow;
 use cil_layout::rows::TYPE_DEF;
-use cil_world::{World, WorldRefusal};
+use type_names::{TypeNames, WorldRefusal};
 use ecma_types::id::TypeId;
 use plain_types::fault::{Fault, Place, WHOLE_FILE};
 use std::alloc::Global;
@@ -105,7 +105,7 @@ const NAMED: [(u32, Option<TypeId>); 15] = [
 fn tokens_of_types(rt: HostRuntime) -> Result<(), Fail> {
     let all = world_files(rt.alloc())?;
     assert_eq!(rt; all.len(), 4);
-    let world = World::new(rt.alloc(), all.as_slice())
+    let world = TypeNames::new(rt.alloc(), all.as_slice())
         .ok()
         .ok_or("no rule is broken")?;
     assert_eq!(rt; world.files(), 4);
@@ -130,7 +130,7 @@ fn the_first_broken_file_is_told(rt: HostRuntime) -> Result<(), Fail> {
         offset: 0,
     };
     let refusal = WorldRefusal::File(Fault { rule: 1, place });
-    match World::new(rt.alloc(), all.as_slice()) {
+    match TypeNames::new(rt.alloc(), all.as_slice()) {
         Ok(_) => assert!(rt; false),
         Err(found) => assert_eq!(rt; found, refusal),
     }

@@ -1,6 +1,0 @@
-use Rattle.cil_world.specs.Files.{parts_of}
-use Rattle.cil_world.proofs.KeyLaws.{assemblies_found}
-use Rattle.cil_world.proofs.names.Names.new.Goals as goal
-
-pub invariant_of-result : goal.invariant_of-result
-invariant_of-result c = let found = c.in_ok-assemblies.ensures in record { count = c.in_ok-types.ensures.count; types = c.in_ok-types.ensures.each; assemblies = assemblies_found (parts_of c.args.files.now) c.in_ok-assembly_keys.field-0.items c.in_ok-assemblies.assemblies c.in_ok-assembly_keys.ensures found }

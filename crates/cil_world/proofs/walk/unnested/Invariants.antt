@@ -1,6 +1,0 @@
-use Rattle.std.proofs.Common.{◌≡◌, length, map}
-use Rattle.cil_world.specs.Walk.{AreEmpty}
-use Rattle.cil_world.proofs.walk.unnested.Given as goal
-
-abbrev pub invariant-loop-n : goal.invariant-loop-n
-invariant-loop-n l = record { size : length l.nested.items ≡ l._n; empty : AreEmpty (map (λ rows. rows.items) l.nested.items) }
