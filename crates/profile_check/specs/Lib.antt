@@ -1,0 +1,4 @@
+pub mod Tests
+pub mod Signatures
+pub mod Library
+pub mod Profile

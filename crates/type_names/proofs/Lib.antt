@@ -1,0 +1,9 @@
+pub mod RowLoops
+pub mod NestedLaws
+pub mod KeyLaws
+pub mod IndexLaws
+pub mod ReferenceLaws
+pub mod Walks
+pub mod Steps
+pub mod Openings
+pub mod Resolving

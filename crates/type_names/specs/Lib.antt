@@ -1,0 +1,9 @@
+pub mod Files
+pub mod Names
+pub mod Index
+pub mod References
+pub mod Walk
+pub mod Visits
+pub mod Opening
+pub mod Resolved
+pub mod Inside
