@@ -1,4 +1,0 @@
-pub mod Tests
-pub mod Signatures
-pub mod Library
-pub mod Profile
