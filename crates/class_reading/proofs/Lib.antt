@@ -1,0 +1,6 @@
+pub mod BaseLaws
+pub mod NumberLaws
+pub mod ListLaws
+pub mod InterfaceLaws
+pub mod TypeLaws
+pub mod FileLaws

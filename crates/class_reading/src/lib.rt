@@ -1,0 +1,12 @@
+//! The types of a world, read: for each file its types without their members (ECMA-335 II.22.37).
+#![tactic(auto)]
+
+mod base;
+mod fields;
+mod files;
+mod interfaces;
+mod kinds;
+mod lists;
+mod types;
+
+pub use files::read_classes;
