@@ -1,0 +1,4 @@
+pub mod WaysLaws
+pub mod PathLaws
+pub mod MoveLaws
+pub mod DoneLaws
