@@ -1,6 +1,6 @@
 -- A table whose parts say what a world's files do tells the world's classes.
-use Rattle.std.proofs.Common.{◌≡◌, codes, ℕ, zero, suc, ◌+◌, ◌<◌, ◌≤◌, List, [], ◌∷◌, map, length, take, drop, Option, Some, None, refl, sym, ap, ◌∙◌, arith}
-use Rattle.std.specs.Prelude.{slice_get, unwrap_or, if◌then◌else◌}
+use Rattle.std.proofs.Common.{◌≡◌, ℕ, zero, suc, ◌+◌, ◌<◌, ◌≤◌, List, [], ◌∷◌, map, length, take, drop, Option, Some, None, refl, sym, ap, ◌∙◌, arith}
+use Rattle.std.specs.Prelude.{codes, slice_get, unwrap_or, if◌then◌else◌}
 use Rattle.std.specs.Option.{option_map}
 use Rattle.std.specs.List.{position}
 use Rattle.std.proofs.Math.Path.{fun_ext}
@@ -48,13 +48,6 @@ through {A} f g h same xs n = go (slice_get xs n) ∙ sym (ap (option_map h) (sl
     go None = refl
     go (Some x) = ap Some (same x)
 
-some_through : {A B : Type 0} (g : A → Option B) (xs : List A) (n : ℕ) → on_some (slice_get xs n) g ≡ on_some (slice_get (map g xs) n) (λ o. o)
-some_through {A} g xs n = go (slice_get xs n) ∙ sym (ap (λ o. on_some o (λ x. x)) (slice_get-map g xs n))
-  where
-    go : (o : Option A) → on_some o g ≡ on_some (option_map g o) (λ x. x)
-    go None = refl
-    go (Some x) = refl
-
 -- a type with its members
 with_members : ℕ → Outline → List OwnField → List OwnMethod → Class
 with_members file o fs ms =
@@ -77,13 +70,13 @@ full : ℕ → List OwnField → List OwnMethod → Outline → Class
 full file fs ms o = with_members file o (range o.first_field o.field_count fs) (range o.first_method o.method_count ms)
 
 row_full : (file : ℕ) (f : FileRows) (c : ClassRow) → row_seen file f c ≡ full file (numbered (field_seen file) 0 f.fields.items) (numbered (method_seen file) 0 f.methods.items) (outline_seen c)
-unfolding full, with_members
+unfolding full with_members
 row_full file f c =
     ap (λ fs. with_members file (outline_seen c) fs (numbered (method_seen file) c.first_method (range c.first_method c.method_count f.methods.items))) (range_numbered (field_seen file) c.first_field c.field_count f.fields.items)
     ∙ ap (with_members file (outline_seen c) (range c.first_field c.field_count (numbered (field_seen file) 0 f.fields.items))) (range_numbered (method_seen file) c.first_method c.method_count f.methods.items)
 
 class_full : (k : ℕ) (ps : List Assembly) (file : ℕ) (p : Assembly) (t : TypeRow) → class_with k ps file p t ≡ full file (numbered (own_field k ps file) 0 p.fields) (numbered (own_method k ps file) 0 p.methods) (outline_of k ps file t)
-unfolding full, with_members
+unfolding full with_members
 class_full k ps file p t =
     ap (λ fs. with_members file (outline_of k ps file t) fs (numbered (own_method k ps file) t.first_method (range t.first_method t.method_count p.methods))) (range_numbered (own_field k ps file) t.first_field t.field_count p.fields)
     ∙ ap (with_members file (outline_of k ps file t) (range t.first_field t.field_count (numbered (own_field k ps file) 0 p.fields))) (range_numbered (own_method k ps file) t.first_method t.method_count p.methods)
@@ -92,10 +85,6 @@ class_full k ps file p t =
 first_same : (k : ℕ) (files : List FilePart) (ps : List Assembly) (n : ℕ) (xs : List FilePart) → first_number (λ (p : Assembly). same_text p.name (codes "mscorlib")) (numbered (assembly_with k files ps) n xs) ≡ first_number (λ (p : Assembly). same_text p.name (codes "mscorlib")) (map alone xs)
 first_same k files ps n [] = refl
 first_same k files ps n (x ∷ xs) = ap (λ o. if same_text (alone x).name (codes "mscorlib") then Some 0 else option_map suc o) (first_same k files ps (suc n) xs)
-
-owner_there : {A : Type 0} (own : Id → Option Id) (file row : ℕ) (o : Option A) → (o ≡ None → own (id_at file row) ≡ None) → on_some (option_map (λ x. own (id_at file (0 + row))) o) (λ y. y) ≡ own (id_at file row)
-owner_there own file row None none = sym (none refl)
-owner_there own file row (Some x) none = ap (λ n. own (id_at file n)) (from_none row)
 
 none_past : {A : Type 0} (xs : List A) (n : ℕ) → slice_get xs n ≡ None → length xs ≤ n
 none_past [] n e = omega arith
@@ -136,30 +125,6 @@ module _ (files : List FilePart) (t : ClassTable) (table : IsTable files t) wher
         ∙ ap (λ ms. option_map (full file (numbered (own_field k ps file) 0 p.fields) ms) (slice_get (map (outline_of k ps file) p.types) n)) own_methods
         ∙ sym (through (class_with k ps file p) (outline_of k ps file) (full file (numbered (own_field k ps file) 0 p.fields) (numbered (own_method k ps file) 0 p.methods)) (class_full k ps file p) p.types n)
 
-    field_owned : (n : ℕ) → on_some (slice_get f.fields.items n) (λ x. option_map (id_at file) x.owner) ≡ binding.field_owner ps (id_at file n)
-    field_owned n =
-        some_through (λ x. option_map (id_at file) x.owner) f.fields.items n
-        ∙ ap (λ os. on_some (slice_get os n) (λ o. o)) (is_file.fields.owners ∙ ap (λ o. numbered (λ i x. binding.field_owner ps (id_at file i)) 0 (unwrap_or (option_map (λ (q : Assembly). q.fields) o) [])) there)
-        ∙ ap (λ o. on_some o (λ y. y)) (get_numbered (λ i x. binding.field_owner ps (id_at file i)) 0 n p.fields)
-        ∙ owner_there (binding.field_owner ps) file n (slice_get p.fields n) none
-      where
-        none : slice_get p.fields n ≡ None → binding.field_owner ps (id_at file n) ≡ None
-        none e =
-            ap (λ o. on_some o (λ (q : Assembly). on_some (slice_get q.fields n) (λ x. option_map (id_at file) (position (λ (r : TypeRow). holds r.first_field r.field_count n) q.types)))) there
-            ∙ ap (λ o. on_some o (λ x. option_map (id_at file) (position (λ (r : TypeRow). holds r.first_field r.field_count n) p.types))) e
-
-    method_owned : (n : ℕ) → on_some (slice_get f.methods.items n) (λ x. option_map (id_at file) x.owner) ≡ binding.method_owner ps (id_at file n)
-    method_owned n =
-        some_through (λ x. option_map (id_at file) x.owner) f.methods.items n
-        ∙ ap (λ os. on_some (slice_get os n) (λ o. o)) (is_file.methods.owners ∙ ap (λ o. numbered (λ i x. binding.method_owner ps (id_at file i)) 0 (unwrap_or (option_map (λ (q : Assembly). q.methods) o) [])) there)
-        ∙ ap (λ o. on_some o (λ y. y)) (get_numbered (λ i x. binding.method_owner ps (id_at file i)) 0 n p.methods)
-        ∙ owner_there (binding.method_owner ps) file n (slice_get p.methods n) none
-      where
-        none : slice_get p.methods n ≡ None → binding.method_owner ps (id_at file n) ≡ None
-        none e =
-            ap (λ o. on_some o (λ (q : Assembly). on_some (slice_get q.methods n) (λ x. option_map (id_at file) (position (λ (r : TypeRow). holds r.first_method r.method_count n) q.types)))) there
-            ∙ ap (λ o. on_some o (λ x. option_map (id_at file) (position (λ (r : TypeRow). holds r.first_method r.method_count n) p.types))) e
-
     ids : numbered (λ n c. id_at file n) 0 f.classes.items ≡ numbered (λ n c. id_at file n) 0 p.types
     ids = ids_map (id_at file) outline_seen 0 f.classes.items ∙ ap (numbered (λ n c. id_at file n) 0) outlines ∙ sym (ids_map (id_at file) (outline_of k ps file) 0 p.types)
 
@@ -184,7 +149,7 @@ module _ (files : List FilePart) (t : ClassTable) (table : IsTable files t) wher
 
   same_field_owner : (c : Id) → field_owner t c ≡ binding.field_owner ps c
   same_field_owner c =
-      by_file (λ f. on_some (slice_get f.fields.items c.row) (λ x. option_map (id_at c.file) x.owner)) (λ p. binding.field_owner ps c) c.file (λ f p here there. field_owned c.file f p here there c.row)
+      by_file (λ f. on_some (slice_get f.fields.items c.row) (λ x. option_map (id_at c.file) x.owner)) (λ p. binding.field_owner ps c) c.file (λ f p here there. (table.rows c.file f here).fields.owners c.row)
       ∙ whole (slice_get ps c.file) refl
     where
       whole : (o : Option Assembly) → slice_get ps c.file ≡ o → on_some o (λ p. binding.field_owner ps c) ≡ binding.field_owner ps c
@@ -193,7 +158,7 @@ module _ (files : List FilePart) (t : ClassTable) (table : IsTable files t) wher
 
   same_method_owner : (c : Id) → method_owner t c ≡ binding.method_owner ps c
   same_method_owner c =
-      by_file (λ f. on_some (slice_get f.methods.items c.row) (λ x. option_map (id_at c.file) x.owner)) (λ p. binding.method_owner ps c) c.file (λ f p here there. method_owned c.file f p here there c.row)
+      by_file (λ f. on_some (slice_get f.methods.items c.row) (λ x. option_map (id_at c.file) x.owner)) (λ p. binding.method_owner ps c) c.file (λ f p here there. (table.rows c.file f here).methods.owners c.row)
       ∙ whole (slice_get ps c.file) refl
     where
       whole : (o : Option Assembly) → slice_get ps c.file ≡ o → on_some o (λ p. binding.method_owner ps c) ≡ binding.method_owner ps c

@@ -2,8 +2,8 @@
 use Rattle.std.specs.Prelude.{◌≡◌, codes, ℕ, List, [], length, map, Option, Some, slice_get, unwrap_or}
 use Rattle.std.specs.Option.{option_map}
 use Rattle.file_tables.specs.File.{FilePart}
-use Rattle.machine.specs.Data.{Id}
 use Rattle.machine.specs.Texts.{same_text}
+use Rattle.machine.specs.Throw.{on_some}
 use Rattle.assemblies.specs.Rows as rows
 use Rattle.assemblies.specs.Binding as binding
 use Rattle.world_rows.specs.World.{rows_alone, assemblies_of, size_of}
@@ -24,11 +24,11 @@ methods_at files file = unwrap_or (option_map (λ (p : rows.Assembly). p.methods
 -- the rows of a table are those of the file, and each has the first type that has it
 pub record AreFields (files : List FilePart) (file : ℕ) (xs : List FieldRow) : Type 0 where
   pub fields : binding.numbered (field_seen file) 0 xs ≡ binding.numbered (binding.own_field (size_of (rows_alone files)) (assemblies_of files) file) 0 (fields_at files file)
-  pub owners : map (λ x. option_map (binding.id_at file) x.owner) xs ≡ binding.numbered (λ n x. binding.field_owner (assemblies_of files) (binding.id_at file n)) 0 (fields_at files file)
+  pub owners : (n : ℕ) → on_some (slice_get xs n) (λ x. option_map (binding.id_at file) x.owner) ≡ binding.field_owner (assemblies_of files) (binding.id_at file n)
 
 pub record AreMethods (files : List FilePart) (file : ℕ) (xs : List MethodRow) : Type 0 where
   pub methods : binding.numbered (method_seen file) 0 xs ≡ binding.numbered (binding.own_method (size_of (rows_alone files)) (assemblies_of files) file) 0 (methods_at files file)
-  pub owners : map (λ x. option_map (binding.id_at file) x.owner) xs ≡ binding.numbered (λ n x. binding.method_owner (assemblies_of files) (binding.id_at file n)) 0 (methods_at files file)
+  pub owners : (n : ℕ) → on_some (slice_get xs n) (λ x. option_map (binding.id_at file) x.owner) ≡ binding.method_owner (assemblies_of files) (binding.id_at file n)
 
 pub record IsFile (files : List FilePart) (file : ℕ) (f : FileRows) : Type 0 where
   pub classes : map outline_seen f.classes.items ≡ outlines_at files file

@@ -13,8 +13,8 @@ mod token;
 mod walk;
 mod world;
 
-pub use keys::NameKey;
+pub use keys::{AssemblyKey, NameKey, Version};
 pub use names::type_places;
-pub use read::{text, type_keys};
+pub use read::{assembly_key, text, type_keys};
 pub use refusal::{Unresolved, WorldRefusal};
 pub use world::TypeNames;

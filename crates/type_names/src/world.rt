@@ -133,7 +133,7 @@ impl<'a> TypeNames<'a> {
     /// The class that a token of a file names, if any.
     fn find_row(&self, file: u16, token: Token) -> Option<ClassId>
         requires { file < length self.now }
-        ensures { option_map class_seen result ≡ class_of self.now file token.entry.table token.entry.row }
+        ensures { option_map class_seen result ≡ class_of self.now file token.table token.row }
     {
         let tables = self.tables(file);
         if token.table == TYPE_DEF {
