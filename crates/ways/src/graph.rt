@@ -15,12 +15,12 @@ pub trait Ways {
         ensures { result ≡ size self.now };
 
     /// How many edges a node has.
-    fn degree(&self, node: u32) -> u32
+    fn degree(&self, node: u32) -> usize
         requires { node < size self.now }
         ensures { result ≡ length (next self.now node) };
 
     /// Where an edge of a node leads.
-    fn step(&self, node: u32, edge: u32) -> u32
+    fn step(&self, node: u32, edge: usize) -> u32
         requires node { node < size self.now }
         requires edge { edge < length (next self.now node) }
         ensures inside { result < size self.now }

@@ -23,7 +23,7 @@ pub enum Mark {
 #[derive(Clone, Copy, Debug)]
 pub struct Place {
     pub node: u32,
-    pub taken: u32,
+    pub taken: usize,
     pub height: u32,
 }
 
@@ -39,7 +39,7 @@ pub struct Walk {
 #[derive(Clone, Copy, Debug)]
 pub enum Looked {
     /// By this edge to a node that wasn't met, with the longest way behind the edges before.
-    Fresh { edge: u32, node: u32, height: u32 },
+    Fresh { edge: usize, node: u32, height: u32 },
     /// To a way that doesn't end.
     Circle,
     /// To nodes whose ways are known, the longest of which this is.

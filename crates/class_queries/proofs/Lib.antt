@@ -1,0 +1,4 @@
+pub mod RowLaws
+pub mod NumberLaws
+pub mod GraphLaws
+pub mod EndLaws
