@@ -1,0 +1,4 @@
+pub mod Entry
+pub mod SameName
+pub mod Circle
+pub mod Changes
