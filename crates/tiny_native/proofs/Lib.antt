@@ -1,0 +1,17 @@
+pub mod ThingKinds
+pub mod Outcomes
+pub mod Memories
+pub mod Held
+pub mod Orders
+pub mod Writes
+pub mod Copying
+pub mod Joined
+pub mod Made
+pub mod ArrayOutcomes
+pub mod Concat
+pub mod PieceOutcomes
+pub mod TypeLemmas
+pub mod PieceLemmas
+pub mod Spliced
+pub mod Arity
+pub mod TypeSame

@@ -1,0 +1,15 @@
+//! The native methods of the base library, over the board's memory.
+#![tactic(auto)]
+
+mod arrays;
+mod copies;
+pub mod ending;
+mod find;
+pub mod native;
+mod numbers;
+mod pieces;
+mod strings;
+mod texts;
+
+pub use ending::NativeEnd;
+pub use native::call;

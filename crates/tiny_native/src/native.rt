@@ -1,0 +1,144 @@
+//! The call of a native by its number.
+
+ghost use Rattle.std.specs.Prelude.{◌≡◌, ◌≢◌, ◌∷◌, List, MatchOption, ℕ};
+ghost use Rattle.machine.specs.Data.{Value as Seen};
+ghost use Rattle.machine.specs.Program.{native_number};
+ghost use Rattle.tiny_ops.specs.Operators.{stack_value};
+ghost use Rattle.tiny_native.specs.Seen.{Scene, ValueNamed, AllNamed, Shows};
+ghost use Rattle.tiny_native.specs.Names.{native_name, one_name, two_name, three_name};
+ghost use Rattle.tiny_native.specs.Ends.{Meets, native_by, native_in};
+ghost use Rattle.tiny_native.specs.declared.ending.NativeEnd.TheVariants.{NoCase};
+ghost use Rattle.tiny_native.specs.declared.native.Native.{Native};
+ghost use Rattle.tiny_ram.specs.Memory.{Memory};
+ghost use Rattle.tiny_ram.specs.Region.{Keeps};
+
+use crate::ending::NativeEnd;
+use crate::{arrays, numbers, pieces, strings};
+use board_types::value::Value;
+use tiny_ram::Ram;
+
+/// A native of one argument.
+#[derive(Clone, Copy)]
+pub enum OfOne {
+    ArrayLength,
+    StringLength,
+    StringFromChar,
+    NumberSigned,
+    NumberUnsigned,
+    DebugPrint,
+}
+
+/// A native of two arguments.
+#[derive(Clone, Copy)]
+pub enum OfTwo {
+    StringChars,
+    StringConcat,
+    StringEquals,
+    StringCompare,
+}
+
+/// A native of three arguments.
+#[derive(Clone, Copy)]
+pub enum OfThree {
+    StringSubstring,
+    StringFromChars,
+}
+
+/// A native by the number of its arguments.
+#[derive(Clone, Copy)]
+pub enum Native {
+    One(OfOne),
+    Two(OfTwo),
+    Three(OfThree),
+}
+
+/// The native of a number; none outside 1 to 17.
+fn numbered(number: u16) -> Option<Native>
+    ensures { MatchOption result ((n : Native) → native_number (native_name n) ≢ number) (λ n. native_number (native_name n) ≡ number) }
+{
+    match number {
+        4 => Some(Native::One(OfOne::ArrayLength)),
+        6 => Some(Native::One(OfOne::StringLength)),
+        7 => Some(Native::Two(OfTwo::StringChars)),
+        8 => Some(Native::Two(OfTwo::StringConcat)),
+        9 => Some(Native::Three(OfThree::StringSubstring)),
+        10 => Some(Native::Two(OfTwo::StringEquals)),
+        11 => Some(Native::Two(OfTwo::StringCompare)),
+        12 => Some(Native::Three(OfThree::StringFromChars)),
+        13 => Some(Native::One(OfOne::StringFromChar)),
+        14 => Some(Native::One(OfOne::NumberSigned)),
+        15 => Some(Native::One(OfOne::NumberUnsigned)),
+        17 => Some(Native::One(OfOne::DebugPrint)),
+        _ => None,
+    }
+}
+
+/// Calls a native of one argument.
+fn of_one(ram: &mut Ram, native: OfOne, a: Value) -> NativeEnd
+    ensures { (c : Scene) (more : List Seen) → Shows c ram.old → ValueNamed c a → Meets c ram.new (native_by c (one_name native) (stack_value c.leads a ∷ more)) result }
+{
+    match native {
+        OfOne::ArrayLength => arrays::length(ram, a),
+        OfOne::StringLength => strings::length(ram, a),
+        OfOne::StringFromChar => pieces::from_char(ram, a),
+        OfOne::NumberSigned => numbers::signed(ram, a),
+        OfOne::NumberUnsigned => numbers::unsigned(ram, a),
+        OfOne::DebugPrint => strings::print(ram, a),
+    }
+}
+
+/// Calls a native of two arguments.
+fn of_two(ram: &mut Ram, native: OfTwo, a: Value, b: Value) -> NativeEnd
+    ensures { (c : Scene) (more : List Seen) → Shows c ram.old → ValueNamed c a → ValueNamed c b → Meets c ram.new (native_by c (two_name native) (stack_value c.leads a ∷ stack_value c.leads b ∷ more)) result }
+{
+    match native {
+        OfTwo::StringChars => strings::chars(ram, a, b),
+        OfTwo::StringConcat => pieces::concat(ram, a, b),
+        OfTwo::StringEquals => strings::equals(ram, a, b),
+        OfTwo::StringCompare => strings::compare(ram, a, b),
+    }
+}
+
+/// Calls a native of three arguments.
+fn of_three(ram: &mut Ram, native: OfThree, a: Value, b: Value, d: Value) -> NativeEnd
+    ensures { (c : Scene) (more : List Seen) → Shows c ram.old → ValueNamed c a → Meets c ram.new (native_by c (three_name native) (stack_value c.leads a ∷ stack_value c.leads b ∷ stack_value c.leads d ∷ more)) result }
+{
+    match native {
+        OfThree::StringSubstring => pieces::substring(ram, a, b, d),
+        OfThree::StringFromChars => pieces::from_chars(ram, a, b, d),
+    }
+}
+
+/// Calls a native with its arguments, where there are enough.
+fn with_arguments(ram: &mut Ram, native: Native, args: &[Value]) -> NativeEnd
+    ensures { (c : Scene) → Shows c ram.old → AllNamed c args.now → Meets c ram.new (native_in c (native_name native) args.now) result }
+{
+    match native {
+        Native::One(native) => match args {
+            [a, ..] => of_one(ram, native, *a),
+            _ => NativeEnd::NoCase,
+        },
+        Native::Two(native) => match args {
+            [a, b, ..] => of_two(ram, native, *a, *b),
+            _ => NativeEnd::NoCase,
+        },
+        Native::Three(native) => match args {
+            [a, b, d, ..] => of_three(ram, native, *a, *b, *d),
+            _ => NativeEnd::NoCase,
+        },
+    }
+}
+
+/// Calls the native of a number (ECMA-335 II.15.4.3: methods of the runtime) with its arguments, the first one first; more than
+/// it takes are not looked at. `Spent` comes exactly where the cells of its new string are more than there are, and after all else
+/// was looked at; then, and at an exception, and at `NoCase`, the memory is as before. `NoCase` comes exactly where the machine has
+/// no case.
+pub fn call(ram: &mut Ram, number: u16, args: &[Value]) -> NativeEnd
+    ensures native { (c : Scene) (n : Native) → native_number (native_name n) ≡ number → Shows c ram.old → AllNamed c args.now → Meets c ram.new (native_in c (native_name n) args.now) result }
+    ensures none { (m : Memory) → ((n : Native) → native_number (native_name n) ≢ number) → Keeps ram.old m → (result ≡ NoCase) × Keeps ram.new m }
+{
+    match numbered(number) {
+        Some(native) => with_arguments(ram, native, args),
+        None => NativeEnd::NoCase,
+    }
+}
