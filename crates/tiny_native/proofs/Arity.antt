@@ -1,9 +1,11 @@
 -- Too few arguments.
-use Rattle.std.proofs.Common.{◌≡◌, ℕ, ◌+◌, ◌<◌, ◌≤◌, List, [], ◌∷◌, length, drop, None, refl, sym, ap, ◌∙◌, arith, get_or}
+use Rattle.std.proofs.Common.{◌≡◌, ℕ, ◌+◌, ◌<◌, ◌≤◌, List, [], ◌∷◌, length, map, drop, None, refl, sym, ap, ◌∙◌, arith, get_or}
 use Rattle.board_types.specs.declared.value.Value.{Value as BoardValue}
 use Rattle.machine.specs.Data.{Value}
-use Rattle.machine.specs.Natives.{array_length, string_length, string_chars, string_concat, string_substring, string_equals, string_compare, string_from_chars, string_from_char, number_signed, number_unsigned, debug_print}
+use Rattle.machine.specs.Natives.{enum_to_string, array_copy, array_length, string_length, string_chars, string_concat, string_substring, string_equals, string_compare, string_from_chars, string_from_char, number_signed, number_unsigned, debug_print}
 use Rattle.tiny_ops.specs.Operators.{stack_value}
+use Rattle.std.proofs.lemmas.List.{length-map}
+use Rattle.machine.specs.Program.{ArrayCopy}
 use Rattle.tiny_native.specs.Seen.{Scene}
 use Rattle.tiny_native.specs.Ends.{native_by, native_in}
 use Rattle.tiny_native.specs.Names.{one_name, two_name, three_name}
@@ -15,7 +17,8 @@ use Rattle.tiny_native.specs.declared.native.OfThree.{OfThree}
 use Rattle.tiny_native.specs.declared.native.OfThree.TheVariants as three
 
 none_one : (s : Scene) (n : OfOne) → native_by s (one_name n) [] ≡ None
-unfolding array_length string_length string_from_char number_signed number_unsigned debug_print
+unfolding enum_to_string array_length string_length string_from_char number_signed number_unsigned debug_print
+none_one s one.EnumToString = refl
 none_one s one.ArrayLength = refl
 none_one s one.StringLength = refl
 none_one s one.StringFromChar = refl
@@ -82,3 +85,23 @@ three_of [] d e f h = absurd (omega (arith, h))
 three_of (v ∷ []) d e f h = absurd (omega (arith, h))
 three_of (v ∷ w ∷ []) d e f h = absurd (omega (arith, h))
 three_of (v ∷ w ∷ x ∷ vs) d e f h = refl
+
+few_values : (s : Scene) (vs : List Value) → length vs < 5 → native_by s ArrayCopy vs ≡ None
+unfolding array_copy
+few_values s [] h = refl
+few_values s (a ∷ []) h = refl
+few_values s (a ∷ b ∷ []) h = refl
+few_values s (a ∷ b ∷ d ∷ []) h = refl
+few_values s (a ∷ b ∷ d ∷ e ∷ []) h = refl
+few_values s (a ∷ b ∷ d ∷ e ∷ f ∷ vs) h = absurd (omega (arith, h))
+
+pub few_five : (s : Scene) (args : List BoardValue) → length args < 5 → native_in s ArrayCopy args ≡ None
+few_five s args h = few_values s (map (stack_value s.leads) args) (let z : length (map (stack_value s.leads) args) ≡ length args = length-map args (stack_value s.leads) in omega (arith, z, h))
+
+pub five_of : (args : List BoardValue) (d : BoardValue) → 5 ≤ length args → args ≡ get_or args 0 d ∷ get_or args 1 d ∷ get_or args 2 d ∷ get_or args 3 d ∷ get_or args 4 d ∷ drop 5 args
+five_of [] d h = absurd (omega (arith, h))
+five_of (v ∷ []) d h = absurd (omega (arith, h))
+five_of (v ∷ w ∷ []) d h = absurd (omega (arith, h))
+five_of (v ∷ w ∷ x ∷ []) d h = absurd (omega (arith, h))
+five_of (v ∷ w ∷ x ∷ y ∷ []) d h = absurd (omega (arith, h))
+five_of (v ∷ w ∷ x ∷ y ∷ z ∷ vs) d h = refl

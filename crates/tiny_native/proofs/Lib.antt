@@ -15,3 +15,6 @@ pub mod PieceLemmas
 pub mod Spliced
 pub mod Arity
 pub mod TypeSame
+pub mod CopyOutcomes
+pub mod Enums
+pub mod Numbering

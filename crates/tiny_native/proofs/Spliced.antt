@@ -1,6 +1,6 @@
 -- A range of a list in place of a range of another.
 use Rattle.std.proofs.Common.{◌≡◌, ◌⊎◌, inl, inr, ⊎_elim, ℕ, ◌+◌, ◌-◌, ◌<◌, ◌≤◌, List, ◌++◌, length, map, take, drop, Option, Some, None, refl, sym, ap, ◌∙◌, subst, arith, get_or}
-use Rattle.std.specs.Prelude.{min}
+use Rattle.std.specs.Prelude.{min, Bool, true, false, ◌||◌}
 use Rattle.std.proofs.lemmas.Bool.{cases_lt}
 use Rattle.std.proofs.lemmas.List.{length-map, length-append, length-take, length-drop, get_or-take, get_or-drop, get_or_append_left, get_or-append_right, ext_get_or, take-map, drop-map, map-append}
 use Rattle.board_types.specs.declared.value.Value.{Value as BoardValue}
@@ -74,3 +74,11 @@ spliced-map f xs ys b =
 pub seen_spliced : (l : Leads) (after before from : List (Option BoardValue)) (i j n : ℕ) → after ≡ spliced before j (piece i n from) → map (seen l) after ≡ spliced (map (seen l) before) j (piece i n (map (seen l) from))
 seen_spliced l after before from i j n e =
     ap (map (seen l)) e ∙ spliced-map (seen l) before (piece i n from) j ∙ ap (spliced (map (seen l) before) j) (sym (piece-map (seen l) i n from))
+
+pub or_first : (a b : Bool) → (a || b) ≡ false → a ≡ false
+or_first true b e = absurd (cc e)
+or_first false b e = refl
+
+pub or_second : (a b : Bool) → (a || b) ≡ false → b ≡ false
+or_second true b e = absurd (cc e)
+or_second false b e = e

@@ -9,7 +9,7 @@ use Rattle.board_types.specs.declared.board.BoardType.{BoardType}
 use Rattle.board_types.specs.declared.board.TheConstants.{NO_ROW}
 use Rattle.machine.specs.Data.{Id, id_eq, CliType, Basic, EnumOf, ClassOf, ValueOf, ArrayOf, elem_number, type_eq}
 use Rattle.ram_words.specs.Cells.{elem_named}
-use Rattle.tiny_native.specs.Types.{id_of, is_no_row, plain_type, ranked, cli_type}
+use Rattle.tiny_native.specs.Types.{id_of, is_no_row, plain_type, ranked, cli_type, same_board_type}
 
 and_left : (a b : Bool) → (a && b) ≡ true → a ≡ true
 and_left true b e = refl
@@ -65,11 +65,11 @@ none_same a b ha hb =
     ap (λ (x : ℕ). (let t : TypeAt = record { assembly = x; row = a.row } in t)) (eqb-true a.assembly 0 (and_left (a.assembly == 0) (a.row == NO_ROW) ha) ∙ sym (eqb-true b.assembly 0 (and_left (b.assembly == 0) (b.row == NO_ROW) hb)))
     ∙ ap (λ (x : ℕ). (let t : TypeAt = record { assembly = b.assembly; row = x } in t)) (eqb-true a.row NO_ROW (and_right (a.assembly == 0) (a.row == NO_ROW) ha) ∙ sym (eqb-true b.row NO_ROW (and_right (b.assembly == 0) (b.row == NO_ROW) hb)))
 
-abbrev either : Elem → TypeAt → Bool → CliType
+abbrev pub either : Elem → TypeAt → Bool → CliType
 either e a q = if q then Basic e else EnumOf e (id_of a)
 
 -- a class, another value type, or a basic type or an enum
-plain_view : (e : Elem) → (e ≡ elem.Class) ⊎ ((e ≡ elem.Value) ⊎ ((a : TypeAt) → plain_type e a ≡ either e a (is_no_row a)))
+pub plain_view : (e : Elem) → (e ≡ elem.Class) ⊎ ((e ≡ elem.Value) ⊎ ((a : TypeAt) → plain_type e a ≡ either e a (is_no_row a)))
 plain_view elem.Class = inl refl
 plain_view elem.Value = inr (inl refl)
 plain_view elem.Void = inr (inr (λ a. refl))
@@ -193,3 +193,27 @@ type_other a b d = at (type_eq (cli_type a) (cli_type b)) refl
     at : (q : Bool) → type_eq (cli_type a) (cli_type b) ≡ q → q ≡ false
     at true h = absurd (d (type_back a b h))
     at false h = refl
+
+pub tested_same : (a b : BoardType) → same_board_type a b ≡ true → a ≡ b
+tested_same a b h =
+    let rest : ((elem_number a.elem == elem_number b.elem) && id_eq (id_of a.of) (id_of b.of)) ≡ true = and_right (a.ranks == b.ranks) ((elem_number a.elem == elem_number b.elem) && id_eq (id_of a.of) (id_of b.of)) h in
+    type_parts a b
+    (eqb-true a.ranks b.ranks (and_left (a.ranks == b.ranks) ((elem_number a.elem == elem_number b.elem) && id_eq (id_of a.of) (id_of b.of)) h))
+    (elem_same a.elem b.elem (and_left (elem_number a.elem == elem_number b.elem) (id_eq (id_of a.of) (id_of b.of)) rest))
+    (row_same a.of b.of (and_right (elem_number a.elem == elem_number b.elem) (id_eq (id_of a.of) (id_of b.of)) rest))
+
+same_tested : (a : BoardType) → same_board_type a a ≡ true
+same_tested a =
+    ap (λ (q : Bool). q && ((elem_number a.elem == elem_number a.elem) && id_eq (id_of a.of) (id_of a.of))) (eq-eqb a.ranks a.ranks refl)
+    ∙ ap (λ (q : Bool). q && id_eq (id_of a.of) (id_of a.of)) (eq-eqb (elem_number a.elem) (elem_number a.elem) refl)
+    ∙ id_same (id_of a.of)
+
+-- the test is the machine's
+pub tested_types : (a b : BoardType) → same_board_type a b ≡ type_eq (cli_type a) (cli_type b)
+tested_types a b = at (same_board_type a b) refl
+  where
+    differ : same_board_type a b ≡ false → a ≡ b → ⊥
+    differ h e = cc (sym h ∙ ap (λ (x : BoardType). same_board_type a x) (sym e) ∙ same_tested a)
+    at : (q : Bool) → same_board_type a b ≡ q → q ≡ type_eq (cli_type a) (cli_type b)
+    at true h = sym (type_same a b (tested_same a b h))
+    at false h = sym (type_other a b (differ h))

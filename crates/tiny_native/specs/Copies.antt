@@ -1,24 +1,26 @@
 -- What natives find and copy.
-use Rattle.std.specs.Prelude.{◌≡◌, ℕ, ℤ, pos, negsuc, ◌+◌, ◌%◌, ◌^◌, ◌<◌, ◌≤◌, ◌⊎◌, nat_lt, if◌then◌else◌, Bool, true, false, unsigned_abs, List, length, Option, Some, None, slice_index_or, slice_get, ◌∷◌}
+use Rattle.std.specs.Prelude.{◌≡◌, ℕ, ℤ, pos, negsuc, ◌+◌, ◌-◌, ◌%◌, ◌||◌, ◌^◌, ◌<◌, ◌≤◌, ◌⊎◌, nat_lt, if◌then◌else◌, Bool, true, false, unsigned_abs, List, map, length, Option, Some, None, slice_index_or, slice_get, ◌∷◌}
 use Rattle.std.specs.Option.{option_map}
 use Rattle.std.specs.Int.{w32, cast_unsigned}
 use Rattle.board_types.specs.declared.value.Shape.{Shape}
 use Rattle.board_types.specs.declared.value.Value.{Value as BoardValue}
 use Rattle.board_types.specs.declared.value.Value.TheVariants as board
-use Rattle.board_types.specs.declared.board.Known.TheVariants.{IndexOutOfRange, ArgumentOutOfRange}
+use Rattle.board_types.specs.declared.board.Known.TheVariants.{IndexOutOfRange, Argument, ArgumentNull, ArgumentOutOfRange}
 use Rattle.machine.specs.Numbers.{is_negative, same_width}
-use Rattle.machine.specs.Throw.{goes, raise}
-use Rattle.machine.specs.Rows.{or_raise, index_of}
+use Rattle.machine.specs.Throw.{on_some, goes, raise}
+use Rattle.machine.specs.Rows.{or_raise, index_of, on_thing_or, on_elements}
 use Rattle.cil_opcodes.specs.declared.shape.IntegerType.TheVariants.{U2}
-use Rattle.machine.specs.Data.{State, Bits, Cell, thing_at, Value, Int, Long, Null, Object, Handle, Pointer, Thing}
-use Rattle.ram_words.specs.Elements.{HasKind, cut_by}
+use Rattle.machine.specs.Data.{State, Bits, Cell, thing_at, put_thing, Elements, Value, Int, Long, Null, Object, Handle, Pointer, Thing}
+use Rattle.ram_words.specs.Elements.{HasKind, cut_by, type_held}
 use Rattle.tiny_ops.specs.Operators.{stack_value}
 use Rattle.tiny_ram.specs.Things.{Entry}
 use Rattle.tiny_ram.specs.Memory.{Memory, IsEntry, put_in}
 use Rattle.tiny_ram.specs.Region.{Keeps}
 use Rattle.tiny_ram.specs.declared.memory.Ram.{Ram}
-use Rattle.tiny_native.specs.Seen.{Scene, Named, kind_of, text_entry}
-use Rattle.machine.specs.Natives.{text_at, is_range, new_text}
+use Rattle.tiny_native.specs.Seen.{Scene, Named, kind_of, seen, text_entry}
+use Rattle.tiny_native.specs.Types.{cli_type}
+use Rattle.tiny_native.specs.declared.arrays.ArrayAt.{ArrayAt}
+use Rattle.machine.specs.Natives.{text_at, is_range, new_text, piece, spliced, copy_elements, on_array_or_null, number_text}
 use Rattle.tiny_native.specs.declared.pieces.Span.{Span}
 use Rattle.tiny_native.specs.declared.strings.StringAt.{StringAt}
 use Rattle.tiny_native.specs.declared.find.Found.{Found}
@@ -113,3 +115,38 @@ is_wide (Some cell) = same_width cell (Bits U2)
 -- a new string where that is a range, else the exception
 abbrev pub part_of : Scene → Bool → List ℕ → Option State
 part_of c b units = if b then new_text c.program c.state c.frame c.callers c.next c.rest units else raise c.program c.state ArgumentOutOfRange
+
+-- ---- copies of elements
+
+-- an array of the memory
+pub record IsElements (c : Scene) (x : ArrayAt) (e : Entry) : Type 0 where
+  pub is : IsEntry c.memory x.thing e
+  pub same : x.shape ≡ e.shape
+  pub what : e.shape.what ≡ 1
+  pub cell : Cell
+  pub packed : type_held e.shape.of ≡ Some cell
+
+abbrev pub elements_of : Scene → Entry → List Value
+elements_of c e = map (seen c.leads) e.places
+
+-- a copy of so many elements into the array of this number, where both arrays have them
+abbrev pub places_copied : Scene → ℕ → Entry → Entry → ℕ → ℕ → ℕ → Option State
+places_copied c thing d e from to count =
+    if nat_lt (length (elements_of c d)) (from + count) || nat_lt (length (elements_of c e)) (to + count) then raise c.program c.state Argument
+    else goes c.program (record c.state { heap = put_thing c.state.heap (thing - 1) (Elements (cli_type e.shape.of) (spliced (elements_of c e) to (piece from count (elements_of c d)))) }) c.frame c.callers c.next c.rest
+
+abbrev pub elements_copied : Scene → ℕ → Entry → Entry → ℤ → ℤ → ℤ → Option State
+elements_copied c thing d e from to count = copy_elements c.program c.state c.frame c.callers c.next c.rest (thing - 1) (cli_type d.shape.of) (elements_of c d) (cli_type e.shape.of) (elements_of c e) from to count
+
+-- into what a value names
+abbrev pub copied_onto : Scene → Value → Entry → ℤ → ℤ → ℤ → Option State
+copied_onto c target d from to count =
+    on_array_or_null c.state.heap target (
+    on_thing_or c.program c.state ArgumentNull target (λ b y.
+    on_elements y (λ type values. copy_elements c.program c.state c.frame c.callers c.next c.rest b (cli_type d.shape.of) (elements_of c d) type values from to count)))
+
+-- ---- numbers
+
+-- a new string of the number that a place means
+abbrev pub number_in_text : Scene → Option Cell → Value → Option State
+number_in_text c kind v = on_some (number_text kind v) (λ units. new_text c.program c.state c.frame c.callers c.next c.rest units)

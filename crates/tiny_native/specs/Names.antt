@@ -1,5 +1,5 @@
 -- The natives by the number of their arguments, as the machine names them.
-use Rattle.machine.specs.Program.{NativeName, ArrayLength, StringLength, StringChars, StringConcat, StringSubstring, StringEquals, StringCompare, StringFromChars, StringFromChar, NumberSigned, NumberUnsigned, DebugPrint}
+use Rattle.machine.specs.Program.{NativeName, EnumToString, ArrayLength, ArrayCopy, StringLength, StringChars, StringConcat, StringSubstring, StringEquals, StringCompare, StringFromChars, StringFromChar, NumberSigned, NumberUnsigned, DebugPrint}
 use Rattle.tiny_native.specs.declared.native.OfOne.{OfOne}
 use Rattle.tiny_native.specs.declared.native.OfOne.TheVariants as one
 use Rattle.tiny_native.specs.declared.native.OfTwo.{OfTwo}
@@ -7,9 +7,10 @@ use Rattle.tiny_native.specs.declared.native.OfTwo.TheVariants as two
 use Rattle.tiny_native.specs.declared.native.OfThree.{OfThree}
 use Rattle.tiny_native.specs.declared.native.OfThree.TheVariants as three
 use Rattle.tiny_native.specs.declared.native.Native.{Native}
-use Rattle.tiny_native.specs.declared.native.Native.TheVariants.{One, Two, Three}
+use Rattle.tiny_native.specs.declared.native.Native.TheVariants.{One, Two, Three, Copy}
 
 abbrev pub one_name : OfOne → NativeName
+one_name one.EnumToString = EnumToString
 one_name one.ArrayLength = ArrayLength
 one_name one.StringLength = StringLength
 one_name one.StringFromChar = StringFromChar
@@ -31,3 +32,4 @@ abbrev pub native_name : Native → NativeName
 native_name (One n) = one_name n
 native_name (Two n) = two_name n
 native_name (Three n) = three_name n
+native_name Copy = ArrayCopy

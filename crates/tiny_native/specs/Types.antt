@@ -5,8 +5,8 @@ use Rattle.plain_types.specs.declared.elem.Elem.TheVariants as elem
 use Rattle.board_types.specs.declared.board.TypeAt.{TypeAt}
 use Rattle.board_types.specs.declared.board.BoardType.{BoardType}
 use Rattle.board_types.specs.declared.board.TheConstants.{NO_ROW}
-use Rattle.machine.specs.Data.{Id, CliType, Basic, EnumOf, ClassOf, ValueOf, ArrayOf}
-use Rattle.std.specs.Prelude.{Bool}
+use Rattle.machine.specs.Data.{Id, id_eq, elem_number, CliType, Basic, EnumOf, ClassOf, ValueOf, ArrayOf}
+use Rattle.std.specs.Prelude.{Bool, true, false}
 
 abbrev pub id_of : TypeAt → Id
 id_of at = record { file = at.assembly; row = at.row }
@@ -28,3 +28,13 @@ ranked (suc n) type = ArrayOf (ranked n type)
 
 abbrev pub cli_type : BoardType → CliType
 cli_type type = ranked type.ranks (plain_type type.elem type.of)
+
+abbrev pub is_enum_type : CliType → Bool
+is_enum_type (EnumOf e class) = true
+is_enum_type (Basic e) = false
+is_enum_type (ClassOf class) = false
+is_enum_type (ValueOf class) = false
+is_enum_type (ArrayOf element) = false
+
+abbrev pub same_board_type : BoardType → BoardType → Bool
+same_board_type a b = (a.ranks == b.ranks) && ((elem_number a.elem == elem_number b.elem) && id_eq (id_of a.of) (id_of b.of))

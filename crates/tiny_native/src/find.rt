@@ -6,10 +6,13 @@ ghost use Rattle.tiny_ram.specs.Things.{Entry};
 ghost use Rattle.tiny_ram.specs.Memory.{Memory, IsEntry, shown, entry_value};
 ghost use Rattle.tiny_ram.specs.Region.{Keeps};
 ghost use Rattle.tiny_native.specs.Seen.{Scene, ValueNamed};
+ghost use Rattle.tiny_native.specs.Types.{same_board_type};
 ghost use Rattle.tiny_native.specs.Copies.{IsFound};
 
+use board_types::board::BoardType;
 use board_types::value::{RamPlace, Shape, Value};
 use plain_types::elem::Elem;
+use ram_words::elems::number_of;
 use tiny_ram::Ram;
 
 /// What `Shape::what` is of arrays.
@@ -59,4 +62,13 @@ pub(crate) fn read(ram: &Ram, thing: u32, index: u32) -> Value
         index,
         elem: Elem::Void,
     })
+}
+
+/// Whether two types are the same.
+pub(crate) fn same_type(a: BoardType, b: BoardType) -> bool
+    ensures { result ≡ same_board_type a b }
+{
+    a.ranks == b.ranks
+        && (number_of(a.elem) == number_of(b.elem)
+            && (a.of.assembly == b.of.assembly && a.of.row == b.of.row))
 }

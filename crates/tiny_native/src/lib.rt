@@ -7,6 +7,7 @@ pub mod ending;
 mod find;
 pub mod native;
 mod numbers;
+mod objects;
 mod pieces;
 mod strings;
 mod texts;

@@ -13,13 +13,14 @@ ghost use Rattle.tiny_ram.specs.Memory.{Memory};
 ghost use Rattle.tiny_ram.specs.Region.{Keeps};
 
 use crate::ending::NativeEnd;
-use crate::{arrays, numbers, pieces, strings};
+use crate::{arrays, numbers, objects, pieces, strings};
 use board_types::value::Value;
 use tiny_ram::Ram;
 
 /// A native of one argument.
 #[derive(Clone, Copy)]
 pub enum OfOne {
+    EnumToString,
     ArrayLength,
     StringLength,
     StringFromChar,
@@ -50,6 +51,8 @@ pub enum Native {
     One(OfOne),
     Two(OfTwo),
     Three(OfThree),
+    /// `Array.Copy`, which has five.
+    Copy,
 }
 
 /// The native of a number; none outside 1 to 17.
@@ -57,7 +60,9 @@ fn numbered(number: u16) -> Option<Native>
     ensures { MatchOption result ((n : Native) → native_number (native_name n) ≢ number) (λ n. native_number (native_name n) ≡ number) }
 {
     match number {
+        3 => Some(Native::One(OfOne::EnumToString)),
         4 => Some(Native::One(OfOne::ArrayLength)),
+        5 => Some(Native::Copy),
         6 => Some(Native::One(OfOne::StringLength)),
         7 => Some(Native::Two(OfTwo::StringChars)),
         8 => Some(Native::Two(OfTwo::StringConcat)),
@@ -78,6 +83,7 @@ fn of_one(ram: &mut Ram, native: OfOne, a: Value) -> NativeEnd
     ensures { (c : Scene) (more : List Seen) → Shows c ram.old → ValueNamed c a → Meets c ram.new (native_by c (one_name native) (stack_value c.leads a ∷ more)) result }
 {
     match native {
+        OfOne::EnumToString => objects::enum_to_string(ram, a),
         OfOne::ArrayLength => arrays::length(ram, a),
         OfOne::StringLength => strings::length(ram, a),
         OfOne::StringFromChar => pieces::from_char(ram, a),
@@ -124,6 +130,12 @@ fn with_arguments(ram: &mut Ram, native: Native, args: &[Value]) -> NativeEnd
         },
         Native::Three(native) => match args {
             [a, b, d, ..] => of_three(ram, native, *a, *b, *d),
+            _ => NativeEnd::NoCase,
+        },
+        Native::Copy => match args {
+            [source, from, target, to, count, ..] => {
+                arrays::copy(ram, *source, *from, *target, *to, *count)
+            }
             _ => NativeEnd::NoCase,
         },
     }

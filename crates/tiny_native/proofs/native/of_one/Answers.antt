@@ -27,3 +27,7 @@ returns-in-NumberUnsigned c s more h na =
 pub returns-in-DebugPrint : goal.returns-in-DebugPrint
 returns-in-DebugPrint c s more h na =
     subst (λ n. Meets s c.args.ram.now (native_by s (one_name n) (stack_value s.leads c.args.a ∷ more)) c.print.result) (sym c.in-DebugPrint.is) (c.print.ensures s more h na)
+
+pub returns-in-EnumToString : goal.returns-in-EnumToString
+returns-in-EnumToString c s more h na =
+    subst (λ n. Meets s c.enum_to_string.new.ram (native_by s (one_name n) (stack_value s.leads c.args.a ∷ more)) c.enum_to_string.result) (sym c.in-EnumToString.is) (c.enum_to_string.ensures s more h na)

@@ -2,11 +2,12 @@ use Rattle.std.proofs.Common.{◌≡◌, ◌∷◌, List, drop, map, get_or, sym
 use Rattle.std.specs.Prelude.{pos}
 use Rattle.board_types.specs.declared.value.Value.{Value as BoardValue}
 use Rattle.board_types.specs.declared.value.Value.TheVariants as board
+use Rattle.machine.specs.Program.{ArrayCopy}
 use Rattle.tiny_ops.specs.Operators.{stack_value}
 use Rattle.tiny_native.specs.Seen.{AllNamed}
 use Rattle.tiny_native.specs.Ends.{Meets, native_in}
 use Rattle.tiny_native.specs.Names.{native_name, one_name, two_name, three_name}
-use Rattle.tiny_native.proofs.Arity.{few_one, few_two, few_three, first_of, firsts_of, three_of}
+use Rattle.tiny_native.proofs.Arity.{few_one, few_two, few_three, first_of, firsts_of, three_of, few_five, five_of}
 use Rattle.tiny_native.proofs.native.with_arguments.Goals as goal
 
 pub returns-in_default : goal.returns-in_default
@@ -44,3 +45,15 @@ returns-in-len3-up c s h n =
     let all : AllNamed s (get_or args 0 d ∷ get_or args 1 d ∷ get_or args 2 d ∷ drop 3 args) = subst (AllNamed s) is n in
     subst (λ o. Meets s c.of_three.new.ram o c.of_three.result) (sym (ap (λ k. native_in s (native_name k) args) c.in-Three.is ∙ ap (native_in s (three_name c.in-Three.native)) is))
     (c.of_three.ensures s (map (stack_value s.leads) (drop 3 args)) h all.0)
+
+pub returns-in_default-args-3 : goal.returns-in_default-args-3
+returns-in_default-args-3 c s h n = (h.keeps, ap (λ k. native_in s (native_name k) c.args.args.now) c.in-Copy.is ∙ few_five s c.args.args.now (omega (arith, c.in_default-args-3.len_below)))
+
+pub returns-in-len5-up : goal.returns-in-len5-up
+returns-in-len5-up c s h n =
+    let args : List BoardValue = c.args.args.now in
+    let d : BoardValue = board.Int (pos 0) in
+    let is : args ≡ get_or args 0 d ∷ get_or args 1 d ∷ get_or args 2 d ∷ get_or args 3 d ∷ get_or args 4 d ∷ drop 5 args = five_of args d c.in-len5-up.len_at_least in
+    let all : AllNamed s (get_or args 0 d ∷ get_or args 1 d ∷ get_or args 2 d ∷ get_or args 3 d ∷ get_or args 4 d ∷ drop 5 args) = subst (AllNamed s) is n in
+    subst (λ o. Meets s c.copy.new.ram o c.copy.result) (sym (ap (λ k. native_in s (native_name k) args) c.in-Copy.is ∙ ap (native_in s ArrayCopy) is))
+    (c.copy.ensures s (map (stack_value s.leads) (drop 5 args)) h all.0 all.1.1.0)
