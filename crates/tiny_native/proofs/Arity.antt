@@ -1,8 +1,8 @@
 -- Too few arguments.
-use Rattle.std.proofs.Common.{◌≡◌, ℕ, ◌+◌, ◌<◌, ◌≤◌, List, [], ◌∷◌, length, map, drop, None, refl, sym, ap, ◌∙◌, arith, get_or}
+use Rattle.std.proofs.Common.{◌≡◌, ◌<◌, ◌≤◌, List, [], ◌∷◌, length, map, drop, None, refl, arith, get_or}
 use Rattle.board_types.specs.declared.value.Value.{Value as BoardValue}
 use Rattle.machine.specs.Data.{Value}
-use Rattle.machine.specs.Natives.{enum_to_string, array_copy, array_length, string_length, string_chars, string_concat, string_substring, string_equals, string_compare, string_from_chars, string_from_char, number_signed, number_unsigned, debug_print}
+use Rattle.machine.specs.Natives.{enum_equals, enum_to_string, array_copy, array_length, string_length, string_chars, string_concat, string_substring, string_equals, string_compare, string_from_chars, string_from_char, number_signed, number_unsigned, debug_print}
 use Rattle.tiny_ops.specs.Operators.{stack_value}
 use Rattle.std.proofs.lemmas.List.{length-map}
 use Rattle.machine.specs.Program.{ArrayCopy}
@@ -27,14 +27,16 @@ none_one s one.NumberUnsigned = refl
 none_one s one.DebugPrint = refl
 
 none_two : (s : Scene) (n : OfTwo) → native_by s (two_name n) [] ≡ None
-unfolding string_chars string_concat string_equals string_compare
+unfolding enum_equals string_chars string_concat string_equals string_compare
+none_two s two.EnumEquals = refl
 none_two s two.StringChars = refl
 none_two s two.StringConcat = refl
 none_two s two.StringEquals = refl
 none_two s two.StringCompare = refl
 
 one_of_two : (s : Scene) (n : OfTwo) (v : Value) → native_by s (two_name n) (v ∷ []) ≡ None
-unfolding string_chars string_concat string_equals string_compare
+unfolding enum_equals string_chars string_concat string_equals string_compare
+one_of_two s two.EnumEquals v = refl
 one_of_two s two.StringChars v = refl
 one_of_two s two.StringConcat v = refl
 one_of_two s two.StringEquals v = refl

@@ -1,5 +1,5 @@
 -- What the machine's natives of arrays and numbers make of their arguments.
-use Rattle.std.proofs.Common.{◌≡◌, ℕ, ◌%◌, ◌^◌, List, [], ◌∷◌, length, Option, Some, None, refl, sym, ap, ◌∙◌}
+use Rattle.std.proofs.Common.{◌≡◌, ℕ, List, [], ◌∷◌, length, Option, Some, None, refl, ap}
 use Rattle.std.specs.Prelude.{ℤ, decimal}
 use Rattle.std.specs.Int.{w64, cast_unsigned}
 use Rattle.board_types.specs.declared.board.Known.TheVariants.{NullReference}

@@ -1,11 +1,9 @@
 -- Two texts one behind the other in a new string.
-use Rattle.std.proofs.Common.{◌≡◌, inl, inr, ⊎_elim, ℕ, ◌+◌, ◌-◌, ◌%◌, ◌^◌, ◌<◌, ◌≤◌, List, [], ◌++◌, length, map, Option, Some, None, refl, sym, ap, ◌∙◌, subst, arith, get_or}
-use Rattle.std.specs.Prelude.{pos}
+use Rattle.std.proofs.Common.{◌≡◌, inl, ⊎_elim, ℕ, ◌+◌, ◌-◌, ◌%◌, ◌^◌, ◌<◌, ◌≤◌, List, ◌++◌, length, map, Option, Some, None, refl, sym, ap, ◌∙◌, subst, arith, get_or}
 use Rattle.std.proofs.lemmas.Bool.{cases_lt}
-use Rattle.std.proofs.lemmas.List.{length-replicate, length-map, length-append, get_or-map, get_or_append_left, get_or-append_right}
+use Rattle.std.proofs.lemmas.List.{length-replicate, length-append, get_or-map, get_or_append_left, get_or-append_right}
 use Rattle.cil_opcodes.specs.declared.shape.IntegerType.TheVariants.{U2}
 use Rattle.board_types.specs.declared.value.Value.{Value}
-use Rattle.board_types.specs.declared.value.Value.TheVariants.{Int}
 use Rattle.machine.specs.Data.{Bits}
 use Rattle.machine.specs.Natives.{or_empty}
 use Rattle.tiny_ram.specs.declared.memory.Ram.{Ram}

@@ -1,5 +1,5 @@
 -- What the machine's copy of elements makes of its arguments.
-use Rattle.std.proofs.Common.{◌≡◌, ℕ, ◌+◌, Bool, true, false, List, [], ◌∷◌, length, Option, Some, None, refl, sym, ap, ◌∙◌}
+use Rattle.std.proofs.Common.{◌≡◌, ℕ, ◌+◌, Bool, true, false, List, ◌∷◌, length, Option, Some, None, refl, ap, ◌∙◌}
 use Rattle.std.specs.Prelude.{ℤ, unsigned_abs, nat_lt, if◌then◌else◌, ◌||◌}
 use Rattle.board_types.specs.declared.board.Known.TheVariants.{Argument, ArgumentNull, ArgumentOutOfRange, ArrayTypeMismatch}
 use Rattle.machine.specs.Data.{CliType, type_eq, thing_at, put_thing, Value, Int, Null, Object, Thing, Elements, Frame, State}

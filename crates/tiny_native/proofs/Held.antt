@@ -1,22 +1,21 @@
 -- What a memory keeps in packed places: values of their kind, cut to their width.
-use Rattle.std.proofs.Common.{◌≡◌, ⊎_elim, ℕ, zero, suc, ◌+◌, ◌-◌, ◌*◌, ◌/◌, ◌%◌, ◌^◌, ◌<◌, ◌≤◌, List, length, Option, Some, None, refl, sym, ap, ◌∙◌, subst, arith, get_or, lit<, w32}
-use Rattle.std.specs.Prelude.{ℤ, pos, negsuc, slice_get, slice_index_or, if◌then◌else◌, nat_lt}
-use Rattle.std.specs.Int.{Width, w8, w16, w64, cast_signed, cast_unsigned, to_le_bytes}
+use Rattle.std.proofs.Common.{◌≡◌, ⊎_elim, ℕ, zero, suc, ◌+◌, ◌-◌, ◌*◌, ◌/◌, ◌%◌, ◌^◌, ◌<◌, ◌≤◌, List, length, Option, Some, None, refl, ap, ◌∙◌, subst, arith, get_or, lit<, w32}
+use Rattle.std.specs.Prelude.{ℤ, pos, negsuc, slice_get, slice_index_or}
+use Rattle.std.specs.Int.{w8, w16, cast_signed, cast_unsigned, to_le_bytes}
 use Rattle.std.proofs.lemmas.Bool.{cases_lt, le-ltb}
 use Rattle.std.proofs.lemmas.Int.{to_z_pos}
 use Rattle.std.proofs.lemmas.Nat.{mod_below}
 use Rattle.std.proofs.lemmas.Option.{get_or_from_slice_get}
 use Rattle.cil_opcodes.specs.declared.shape.IntegerType.TheVariants.{I1, U1, I2, U2, I4, U4, I8, U8}
 use Rattle.board_types.specs.declared.value.Value.{Value}
-use Rattle.board_types.specs.declared.value.Value.TheVariants.{Int, Long, Ref, Pointer, Handle}
+use Rattle.board_types.specs.declared.value.Value.TheVariants.{Int}
 use Rattle.machine.specs.Data.{Cell, Bits, Refers}
-use Rattle.ram_words.specs.Elements.{byte_at, half_at, element_at, HasKind, narrowed, cut_by}
+use Rattle.ram_words.specs.Elements.{byte_at, half_at, element_at, HasKind, cut_by}
 use Rattle.tiny_ram.specs.declared.memory.Ram.{Ram}
 use Rattle.tiny_ram.specs.Things.{Entry, Layout, Packed, layout_of, place_at}
 use Rattle.tiny_ram.specs.Memory.{Memory, IsEntry}
 use Rattle.tiny_ram.specs.Region.{Keeps, Lies}
 use Rattle.tiny_ram.proofs.Puts.{Here, here}
-use Rattle.tiny_native.specs.Copies.{PlaceHasKind}
 
 byte_small : (n i : ℕ) → get_or (to_le_bytes w32 n) i 0 < 256
 byte_small n zero = mod_below n 256 (lit< tt)

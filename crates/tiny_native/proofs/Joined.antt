@@ -1,26 +1,22 @@
 -- Strings made of places of other things.
-use Rattle.std.proofs.Common.{◌≡◌, ◌≢◌, ◌⊎◌, inl, inr, ⊎_elim, ℕ, zero, suc, ◌+◌, ◌-◌, ◌*◌, ◌/◌, ◌%◌, ◌^◌, ◌<◌, ◌≤◌, List, [], ◌∷◌, ◌++◌, length, map, take, drop, Option, Some, None, refl, sym, ap, ◌∙◌, subst, arith, get_or, w32}
-use Rattle.std.specs.Prelude.{ℤ, pos, replicate, min}
-use Rattle.std.specs.Int.{cast_unsigned}
-use Rattle.std.proofs.lemmas.Bool.{cases_lt}
-use Rattle.std.proofs.lemmas.List.{length-replicate, length-map, length-append, length-drop, length-take, get_or-map, get_or-take, get_or-drop, get_or_append_left, get_or-append_right, ext_get_or}
+use Rattle.std.proofs.Common.{◌≡◌, ℕ, ◌+◌, ◌-◌, ◌%◌, ◌^◌, ◌<◌, ◌≤◌, List, length, map, take, drop, Option, Some, None, refl, sym, ap, ◌∙◌, subst, arith, get_or}
+use Rattle.std.specs.Prelude.{pos, min}
+use Rattle.std.proofs.lemmas.List.{length-replicate, length-map, length-drop, length-take, get_or-map, get_or-take, get_or-drop}
 use Rattle.cil_opcodes.specs.declared.shape.IntegerType.TheVariants.{U2}
 use Rattle.board_types.specs.declared.value.Value.{Value}
 use Rattle.board_types.specs.declared.value.Value.TheVariants.{Int, Long, Ref, Pointer, Handle}
-use Rattle.machine.specs.Data.{Cell, Bits}
-use Rattle.machine.specs.Natives.{piece, or_empty}
+use Rattle.machine.specs.Data.{Bits}
+use Rattle.machine.specs.Natives.{piece}
 use Rattle.tiny_ram.specs.declared.memory.Ram.{Ram}
-use Rattle.tiny_ram.specs.Things.{Entry, entry_cells, fresh, string_shape}
-use Rattle.tiny_ram.specs.Memory.{Memory, heap_cells, entry_at, IsEntry, with_entry, put_in}
+use Rattle.tiny_ram.specs.Things.{Entry, fresh, string_shape}
+use Rattle.tiny_ram.specs.Memory.{Memory, heap_cells, IsEntry, with_entry}
 use Rattle.tiny_ram.specs.Region.{Keeps}
-use Rattle.tiny_ram.proofs.Heaps.{inside}
-use Rattle.tiny_ram.proofs.Kept.{entry_stays, entry_other}
-use Rattle.tiny_ram.proofs.Elsewhere.{some_cells}
+use Rattle.tiny_ram.proofs.Kept.{entry_stays}
 use Rattle.tiny_native.specs.Seen.{unit_place, text_entry}
 use Rattle.tiny_native.specs.Texts.{string_entry}
-use Rattle.tiny_native.specs.Copies.{Copied, Laid, TextIs, AllHaveKind, PlaceHasKind, cut_place, unit_in}
-use Rattle.tiny_native.proofs.Held.{Element, element_held, entry_count}
-use Rattle.tiny_native.proofs.Memories.{put_last, put_twice, put_same, put_there, last_there}
+use Rattle.tiny_native.specs.Copies.{Copied, AllHaveKind, PlaceHasKind, cut_place, unit_in}
+use Rattle.tiny_native.proofs.Held.{Element, element_held}
+use Rattle.tiny_native.proofs.Memories.{put_last}
 use Rattle.tiny_native.proofs.Writes.{places_whole}
 
 pub piece_length : {A : Type 0} (i n : ℕ) (xs : List A) → i + n ≤ length xs → length (piece i n xs) ≡ n

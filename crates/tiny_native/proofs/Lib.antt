@@ -18,3 +18,4 @@ pub mod TypeSame
 pub mod CopyOutcomes
 pub mod Enums
 pub mod Numbering
+pub mod BoxEquals

@@ -1,5 +1,5 @@
 -- A native that makes a string meets the machine's.
-use Rattle.std.proofs.Common.{◌≡◌, ℕ, ◌+◌, ◌-◌, ◌<◌, List, [], ◌∷◌, ◌++◌, Option, Some, None, refl, sym, ap, ◌∙◌, subst, arith}
+use Rattle.std.proofs.Common.{◌≡◌, ℕ, ◌-◌, List, [], ◌∷◌, ◌++◌, Option, Some, None, sym, ap, ◌∙◌, arith}
 use Rattle.board_types.specs.declared.value.Value.TheVariants as board
 use Rattle.machine.specs.Data.{end_of, Value, Object, Text, State}
 use Rattle.machine.specs.Throw.{goes}

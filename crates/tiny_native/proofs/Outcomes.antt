@@ -1,8 +1,6 @@
 -- What the machine's natives make of their arguments.
-use Rattle.std.proofs.Common.{◌≡◌, ℕ, ◌+◌, ◌*◌, ◌%◌, ◌^◌, ◌<◌, ◌≤◌, Bool, true, false, ◌==◌, List, [], ◌∷◌, ◌++◌, length, Option, Some, None, refl, sym, ap, ◌∙◌, subst, arith}
+use Rattle.std.proofs.Common.{◌≡◌, ℕ, List, ◌∷◌, ◌++◌, length, Option, Some, None, refl, ap, ◌∙◌}
 use Rattle.std.specs.Prelude.{ℤ, pos, slice_get, if◌then◌else◌}
-use Rattle.std.specs.Int.{w32, cast_signed}
-use Rattle.std.specs.Option.{option_map}
 use Rattle.board_types.specs.declared.board.Known.TheVariants.{NullReference, IndexOutOfRange}
 use Rattle.machine.specs.Data.{thing_at, Value, Int, Null, Object, Thing, Text, Frame, State}
 use Rattle.machine.specs.Program.{Program}

@@ -1,5 +1,5 @@
 -- Pieces of texts, as places hold them and as the machine sees them.
-use Rattle.std.proofs.Common.{◌≡◌, ℕ, ◌+◌, ◌%◌, ◌^◌, ◌<◌, ◌≤◌, Bool, true, false, ◌==◌, List, [], ◌∷◌, length, map, take, drop, Option, Some, None, refl, sym, ap, ◌∙◌, subst, arith, get_or, w32}
+use Rattle.std.proofs.Common.{◌≡◌, ℕ, ◌%◌, ◌^◌, ◌<◌, ◌≤◌, Bool, true, false, ◌==◌, List, [], ◌∷◌, length, map, take, drop, Option, Some, None, refl, sym, ap, ◌∙◌, arith, get_or, w32}
 use Rattle.std.specs.Prelude.{ℤ, pos, negsuc, unsigned_abs, slice_get, if◌then◌else◌, ◌-◌}
 use Rattle.std.specs.Int.{cast_unsigned}
 use Rattle.std.proofs.lemmas.Option.{slice_get-get_or, slice_get_past}
@@ -8,7 +8,7 @@ use Rattle.cil_opcodes.specs.declared.shape.IntegerType.TheVariants.{I1, U1, I2,
 use Rattle.board_types.specs.declared.board.Known.TheVariants.{IndexOutOfRange}
 use Rattle.board_types.specs.declared.value.Value.{Value as BoardValue}
 use Rattle.board_types.specs.declared.value.Value.TheVariants as board
-use Rattle.machine.specs.Data.{Cell, Bits, Refers, Value, Int, Null, Object}
+use Rattle.machine.specs.Data.{Cell, Bits, Refers, Int, Null, Object}
 use Rattle.machine.specs.Numbers.{is_negative}
 use Rattle.machine.specs.Throw.{goes, raise}
 use Rattle.machine.specs.Rows.{or_raise, index_of}

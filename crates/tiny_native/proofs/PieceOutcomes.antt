@@ -1,12 +1,12 @@
 -- What the machine's natives that make strings make of their arguments.
-use Rattle.std.proofs.Common.{◌≡◌, ℕ, Bool, true, false, List, [], ◌∷◌, ◌++◌, length, map, Option, Some, None, refl, sym, ap, ◌∙◌}
+use Rattle.std.proofs.Common.{◌≡◌, ℕ, Bool, true, false, List, ◌∷◌, ◌++◌, length, map, Option, Some, None, refl, ap, ◌∙◌}
 use Rattle.std.specs.Prelude.{ℤ, unsigned_abs, if◌then◌else◌}
 use Rattle.cil_opcodes.specs.declared.shape.IntegerType.TheVariants.{U2}
 use Rattle.board_types.specs.declared.board.Known.TheVariants.{NullReference, ArgumentNull, ArgumentOutOfRange}
 use Rattle.machine.specs.Data.{CliType, cell_of, Cell, Bits, thing_at, Value, Int, Null, Object, Thing, Text, Elements, Frame, State}
 use Rattle.machine.specs.Program.{Program}
 use Rattle.machine.specs.Numbers.{as_int, same_width}
-use Rattle.machine.specs.Throw.{on_some, goes, raise}
+use Rattle.machine.specs.Throw.{on_some, raise}
 use Rattle.machine.specs.Rows.{on_thing_or, on_elements, on_cell}
 use Rattle.machine.specs.Natives.{units_of, unit_of, text_at, or_empty, is_range, piece, on_string, new_text, string_concat, string_substring, string_from_chars}
 use Rattle.tiny_native.specs.Copies.{Lacks, is_wide}

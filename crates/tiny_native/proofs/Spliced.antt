@@ -1,10 +1,10 @@
 -- A range of a list in place of a range of another.
-use Rattle.std.proofs.Common.{◌≡◌, ◌⊎◌, inl, inr, ⊎_elim, ℕ, ◌+◌, ◌-◌, ◌<◌, ◌≤◌, List, ◌++◌, length, map, take, drop, Option, Some, None, refl, sym, ap, ◌∙◌, subst, arith, get_or}
+use Rattle.std.proofs.Common.{◌≡◌, inl, inr, ⊎_elim, ℕ, ◌+◌, ◌-◌, ◌<◌, ◌≤◌, List, ◌++◌, length, map, take, drop, Option, Some, None, refl, sym, ap, ◌∙◌, arith, get_or}
 use Rattle.std.specs.Prelude.{min, Bool, true, false, ◌||◌}
 use Rattle.std.proofs.lemmas.Bool.{cases_lt}
 use Rattle.std.proofs.lemmas.List.{length-map, length-append, length-take, length-drop, get_or-take, get_or-drop, get_or_append_left, get_or-append_right, ext_get_or, take-map, drop-map, map-append}
 use Rattle.board_types.specs.declared.value.Value.{Value as BoardValue}
-use Rattle.machine.specs.Data.{Cell, Value}
+use Rattle.machine.specs.Data.{Cell}
 use Rattle.machine.specs.Natives.{piece, spliced}
 use Rattle.tiny_ops.specs.Operators.{Leads}
 use Rattle.tiny_native.specs.Seen.{seen}

@@ -1,5 +1,5 @@
 -- Things by their kinds.
-use Rattle.std.proofs.Common.{◌≡◌, ℕ, ◌-◌, ◌<◌, Bool, true, false, List, Option, Some, None, refl, sym, ap, ◌∙◌, subst, arith}
+use Rattle.std.proofs.Common.{◌≡◌, ℕ, ◌-◌, ◌<◌, Bool, true, false, List, Option, Some, None, refl, ap, ◌∙◌, subst, arith}
 use Rattle.std.specs.Prelude.{ℤ, if◌then◌else◌, ◌==◌, length}
 use Rattle.board_types.specs.declared.board.TypeAt.{TypeAt}
 use Rattle.machine.specs.Numbers.{as_int, as_long, as_handle}
@@ -17,7 +17,7 @@ use Rattle.machine.specs.Natives.{units_of, text_at, on_string, on_array_or_null
 use Rattle.tiny_ops.specs.Operators.{Leads, reference, stack_value}
 use Rattle.tiny_ram.specs.Things.{Entry}
 use Rattle.tiny_ram.specs.Memory.{IsEntry}
-use Rattle.tiny_native.specs.Seen.{Scene, Holds, IsArray, IsBox, Named, ValueNamed, kind_of, text_entry}
+use Rattle.tiny_native.specs.Seen.{Scene, Holds, IsArray, IsBox, Named, kind_of, text_entry}
 use Rattle.tiny_native.specs.Copies.{Lacks, Finds}
 
 pub object_of : (n : ℕ) → 0 < n → reference n ≡ Object (n - 1)
@@ -68,12 +68,12 @@ array_of l e (Instance class fields) h k = absurd (omega (arith, k))
 array_of l e (Boxed type value) h k = absurd (omega (arith, k))
 array_of l e (StaticCell type value) h k = absurd (omega (arith, k))
 
-box_of : (l : Leads) (e : Entry) (x : Thing) → Holds l e x → kind_of x ≡ 3 → (type : CliType) × (value : Value) × (x ≡ Boxed type value) × IsBox l e type value
-box_of l e (Boxed type value) h k = (type, value, refl, h)
-box_of l e (Elements element values) h k = absurd (omega (arith, k))
-box_of l e (Text units) h k = absurd (omega (arith, k))
-box_of l e (Instance class fields) h k = absurd (omega (arith, k))
-box_of l e (StaticCell type value) h k = absurd (omega (arith, k))
+pub boxed_of : (l : Leads) (e : Entry) (x : Thing) → Holds l e x → kind_of x ≡ 3 → (type : CliType) × (value : Value) × (x ≡ Boxed type value) × IsBox l e type value
+boxed_of l e (Boxed type value) h k = (type, value, refl, h)
+boxed_of l e (Elements element values) h k = absurd (omega (arith, k))
+boxed_of l e (Text units) h k = absurd (omega (arith, k))
+boxed_of l e (Instance class fields) h k = absurd (omega (arith, k))
+boxed_of l e (StaticCell type value) h k = absurd (omega (arith, k))
 
 named_value : (c : Scene) (v : BoardValue) (what thing : ℕ) (shape : Shape) → Finds c v what thing shape → stack_value c.leads v ≡ Object (thing - 1)
 named_value c v what thing shape h = ap (stack_value c.leads) h.value ∙ object_of thing h.some
@@ -109,7 +109,7 @@ array_named c v thing shape h =
 pub box_named : (c : Scene) (v : BoardValue) (thing : ℕ) (shape : Shape) → Finds c v 3 thing shape → BoxNamed c v thing shape
 box_named c v thing shape h =
     let n : Named c thing = h.named in
-    let t : (type : CliType) × (value : Value) × (n.object ≡ Boxed type value) × IsBox c.leads n.entry type value = box_of c.leads n.entry n.object n.holds h.kind in
+    let t : (type : CliType) × (value : Value) × (n.object ≡ Boxed type value) × IsBox c.leads n.entry type value = boxed_of c.leads n.entry n.object n.holds h.kind in
     record {
       type = t.0;
       held = t.1;

@@ -1,5 +1,5 @@
 -- The board's types are equal where the machine's are.
-use Rattle.std.proofs.Common.{◌≡◌, ◌⊎◌, inl, inr, ⊎_elim, ℕ, zero, suc, Bool, true, false, ◌==◌, refl, sym, ap, ◌∙◌, arith}
+use Rattle.std.proofs.Common.{◌≡◌, ◌⊎◌, inl, inr, ⊎_elim, ℕ, zero, suc, Bool, true, false, ◌==◌, refl, sym, ap, ◌∙◌}
 use Rattle.std.specs.Prelude.{if◌then◌else◌, ◌&&◌}
 use Rattle.std.proofs.lemmas.Bool.{eqb-true, eq-eqb}
 use Rattle.plain_types.specs.declared.elem.Elem.{Elem}
@@ -214,6 +214,7 @@ tested_types a b = at (same_board_type a b) refl
   where
     differ : same_board_type a b ≡ false → a ≡ b → ⊥
     differ h e = cc (sym h ∙ ap (λ (x : BoardType). same_board_type a x) (sym e) ∙ same_tested a)
+
     at : (q : Bool) → same_board_type a b ≡ q → q ≡ type_eq (cli_type a) (cli_type b)
     at true h = sym (type_same a b (tested_same a b h))
     at false h = sym (type_other a b (differ h))

@@ -1,12 +1,12 @@
 -- Units that are put into a new string.
-use Rattle.std.proofs.Common.{◌≡◌, ◌⊎◌, inl, inr, ⊎_elim, ℕ, suc, ◌+◌, ◌-◌, ◌*◌, ◌/◌, ◌%◌, ◌^◌, ◌<◌, ◌≤◌, List, [], ◌∷◌, length, map, Option, Some, None, refl, sym, ap, ◌∙◌, subst, arith, get_or}
-use Rattle.std.specs.Prelude.{pos, replicate, slice_set, slice_index_or}
+use Rattle.std.proofs.Common.{◌≡◌, inl, inr, ℕ, ◌+◌, ◌<◌, List, length, map, Option, None, sym, ap, ◌∙◌, subst, arith, get_or}
+use Rattle.std.specs.Prelude.{pos, replicate, slice_set}
 use Rattle.std.proofs.lemmas.Bool.{cases_eq}
-use Rattle.std.proofs.lemmas.List.{get_or-set_same, get_or-set_other, length-set, length-replicate, length-map, get_or-map, ext_get_or}
+use Rattle.std.proofs.lemmas.List.{get_or-set_same, get_or-set_other, length-replicate, length-map, get_or-map, ext_get_or}
 use Rattle.board_types.specs.declared.value.Value.{Value}
 use Rattle.board_types.specs.declared.value.Value.TheVariants.{Int}
 use Rattle.tiny_ram.specs.declared.memory.Ram.{Ram}
-use Rattle.tiny_ram.specs.Things.{Entry, fresh, fresh_place, layout_of, string_shape}
+use Rattle.tiny_ram.specs.Things.{fresh, fresh_place, layout_of, string_shape}
 use Rattle.plain_types.specs.declared.elem.Elem.TheVariants.{Void}
 use Rattle.std.proofs.lemmas.Option.{unwrap_or-slice_get}
 use Rattle.tiny_ram.specs.Memory.{Memory, heap_cells, with_entry, shown, entry_value}

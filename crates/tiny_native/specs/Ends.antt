@@ -2,7 +2,7 @@
 use Rattle.std.specs.Prelude.{◌≡◌, ℕ, ◌+◌, ◌-◌, ◌<◌, ◌++◌, ◌∷◌, [], List, map, Option, Some, None}
 use Rattle.std.specs.Option.{option_map}
 use Rattle.board_types.specs.declared.value.Value.{Value as BoardValue}
-use Rattle.machine.specs.Data.{thing_at, put_thing, Value, Thing, Text, Elements, State}
+use Rattle.machine.specs.Data.{put_thing, Value, Thing, Text, Elements, State}
 use Rattle.machine.specs.Program.{NativeName}
 use Rattle.machine.specs.Texts.{printed}
 use Rattle.machine.specs.Throw.{goes, raise}

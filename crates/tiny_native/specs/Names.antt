@@ -1,5 +1,5 @@
 -- The natives by the number of their arguments, as the machine names them.
-use Rattle.machine.specs.Program.{NativeName, EnumToString, ArrayLength, ArrayCopy, StringLength, StringChars, StringConcat, StringSubstring, StringEquals, StringCompare, StringFromChars, StringFromChar, NumberSigned, NumberUnsigned, DebugPrint}
+use Rattle.machine.specs.Program.{NativeName, EnumEquals, EnumToString, ArrayLength, ArrayCopy, StringLength, StringChars, StringConcat, StringSubstring, StringEquals, StringCompare, StringFromChars, StringFromChar, NumberSigned, NumberUnsigned, DebugPrint}
 use Rattle.tiny_native.specs.declared.native.OfOne.{OfOne}
 use Rattle.tiny_native.specs.declared.native.OfOne.TheVariants as one
 use Rattle.tiny_native.specs.declared.native.OfTwo.{OfTwo}
@@ -19,6 +19,7 @@ one_name one.NumberUnsigned = NumberUnsigned
 one_name one.DebugPrint = DebugPrint
 
 abbrev pub two_name : OfTwo → NativeName
+two_name two.EnumEquals = EnumEquals
 two_name two.StringChars = StringChars
 two_name two.StringConcat = StringConcat
 two_name two.StringEquals = StringEquals

@@ -1,12 +1,11 @@
 -- Which state of the machine a memory stands for, as far as a native looks: the things that its arguments name, and where the next
 -- object goes.
-use Rattle.std.specs.Prelude.{◌≡◌, ℕ, pos, ◌-◌, ◌<◌, ◌==◌, Bool, List, [], ◌∷◌, map, length, Option, Some, None}
+use Rattle.std.specs.Prelude.{◌≡◌, ℕ, pos, ◌-◌, ◌<◌, List, [], ◌∷◌, map, length, Option, Some, None}
 use Rattle.board_types.specs.declared.board.TypeAt.{TypeAt}
 use Rattle.board_types.specs.declared.board.BoardType.{BoardType}
-use Rattle.board_types.specs.declared.value.Shape.{Shape}
 use Rattle.board_types.specs.declared.value.Value.{Value as BoardValue}
 use Rattle.board_types.specs.declared.value.Value.TheVariants as board
-use Rattle.machine.specs.Data.{Cell, CliType, ClassOf, thing_at, end_of, type_of, Value, Int, Long, Null, Object, Handle, Pointer, Thing, Instance, Text, Elements, Boxed, StaticCell, Frame, State}
+use Rattle.machine.specs.Data.{Cell, CliType, ClassOf, thing_at, end_of, type_of, Value, Null, Thing, Instance, Text, Elements, Boxed, StaticCell, Frame, State}
 use Rattle.machine.specs.Program.{Program, NativeName, ObjectToString, InitializeArray}
 use Rattle.machine.specs.Natives.{name_of}
 use Rattle.ram_words.specs.Elements.{type_held}

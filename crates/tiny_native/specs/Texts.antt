@@ -1,14 +1,14 @@
 -- A new string behind the other things.
-use Rattle.std.specs.Prelude.{◌≡◌, ℕ, ◌+◌, ◌<◌, ◌≤◌, List, length, Option, Some, None, slice_index, slice_index_or, Result, Ok, Err}
+use Rattle.std.specs.Prelude.{◌≡◌, ℕ, ◌+◌, ◌<◌, List, length, Option, Some, None, slice_index, slice_index_or}
 use Rattle.board_types.specs.declared.value.Value.{Value}
-use Rattle.board_types.specs.declared.value.Value.TheVariants.{Ref, Int, Long, Pointer, Handle}
+use Rattle.board_types.specs.declared.value.Value.TheVariants.{Ref}
 use Rattle.tiny_ram.specs.Things.{Entry, entry_cells, string_shape}
 use Rattle.tiny_ram.specs.Memory.{Memory, heap_cells, used, with_entry}
 use Rattle.tiny_ram.specs.Region.{Keeps}
 use Rattle.tiny_ram.specs.declared.memory.Ram.{Ram}
 use Rattle.tiny_native.specs.Seen.{unit_place, text_entry}
 use Rattle.tiny_native.specs.declared.ending.NativeEnd.{NativeEnd}
-use Rattle.tiny_native.specs.declared.ending.NativeEnd.TheVariants.{Gives, Prints, Throws, Spent, NoCase}
+use Rattle.tiny_native.specs.declared.ending.NativeEnd.TheVariants.{Gives, Spent}
 
 -- a string of so many units whose places hold this
 abbrev pub string_entry : ℕ → List (Option Value) → Entry

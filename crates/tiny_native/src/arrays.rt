@@ -49,7 +49,8 @@ pub(crate) struct Move {
 fn passes(source: Shape, target: Shape, from: u32, to: u32, count: u32) -> bool
     ensures { result ≡ (nat_lt source.count (from + count) || nat_lt target.count (to + count)) }
 {
-    from as u64 + count as u64 > source.count as u64 || to as u64 + count as u64 > target.count as u64
+    from as u64 + count as u64 > source.count as u64
+        || to as u64 + count as u64 > target.count as u64
 }
 
 /// Copies so many elements from one on to others from one on, where both arrays have them.
@@ -156,7 +157,12 @@ pub(crate) fn copy(
     match find(ram, source, ARRAY) {
         Found::Null => copy_from_null(ram, target),
         Found::Thing(thing, shape) => {
-            copy_to(ram, ArrayAt { thing, shape }, target, Move { from, to, count })
+            copy_to(
+                ram,
+                ArrayAt { thing, shape },
+                target,
+                Move { from, to, count },
+            )
         }
         Found::Other => NativeEnd::NoCase,
     }

@@ -32,6 +32,7 @@ pub enum OfOne {
 /// A native of two arguments.
 #[derive(Clone, Copy)]
 pub enum OfTwo {
+    EnumEquals,
     StringChars,
     StringConcat,
     StringEquals,
@@ -60,6 +61,7 @@ fn numbered(number: u16) -> Option<Native>
     ensures { MatchOption result ((n : Native) → native_number (native_name n) ≢ number) (λ n. native_number (native_name n) ≡ number) }
 {
     match number {
+        2 => Some(Native::Two(OfTwo::EnumEquals)),
         3 => Some(Native::One(OfOne::EnumToString)),
         4 => Some(Native::One(OfOne::ArrayLength)),
         5 => Some(Native::Copy),
@@ -98,6 +100,7 @@ fn of_two(ram: &mut Ram, native: OfTwo, a: Value, b: Value) -> NativeEnd
     ensures { (c : Scene) (more : List Seen) → Shows c ram.old → ValueNamed c a → ValueNamed c b → Meets c ram.new (native_by c (two_name native) (stack_value c.leads a ∷ stack_value c.leads b ∷ more)) result }
 {
     match native {
+        OfTwo::EnumEquals => objects::enum_equals(ram, a, b),
         OfTwo::StringChars => strings::chars(ram, a, b),
         OfTwo::StringConcat => pieces::concat(ram, a, b),
         OfTwo::StringEquals => strings::equals(ram, a, b),

@@ -6,7 +6,7 @@ use Rattle.machine.specs.Data.{CliType, Value, Int}
 use Rattle.machine.specs.Natives.{array_copy}
 use Rattle.tiny_ops.specs.Operators.{stack_value}
 use Rattle.tiny_native.specs.Types.{cli_type}
-use Rattle.tiny_native.specs.Copies.{elements_of, copied_onto}
+use Rattle.tiny_native.specs.Copies.{copied_onto}
 use Rattle.tiny_native.specs.Ends.{Meets}
 use Rattle.tiny_native.proofs.ThingKinds.{ArrayNamed, array_named, no_int}
 use Rattle.tiny_native.proofs.CopyOutcomes.{onto, copy_array, copy_null, copy_lacks, copy_no_from, copy_no_to, copy_no_count}
@@ -19,24 +19,24 @@ pub returns-in_default-to : goal.returns-in_default-to
 returns-in_default-to c s more h n k = (
   h.keeps,
   ap (λ v. array_copy s.program s.state s.frame s.callers s.next s.rest (stack_value s.leads c.args.source ∷ stack_value s.leads v ∷ stack_value s.leads c.args.target ∷ stack_value s.leads c.args.to ∷ stack_value s.leads c.args.count ∷ more)) c.in-Int.is
-  ∙ copy_no_to s.program s.state s.frame s.callers s.next s.rest more (stack_value s.leads c.args.source) c.in-Int.from (stack_value s.leads c.args.target) (stack_value s.leads c.args.to) (stack_value s.leads c.args.count) (no_int s.leads c.args.to c.in_default-to.not-Int),
+      ∙ copy_no_to s.program s.state s.frame s.callers s.next s.rest more (stack_value s.leads c.args.source) c.in-Int.from (stack_value s.leads c.args.target) (stack_value s.leads c.args.to) (stack_value s.leads c.args.count) (no_int s.leads c.args.to c.in_default-to.not-Int),
 )
 
 pub returns-in_default-count : goal.returns-in_default-count
 returns-in_default-count c s more h n k = (
   h.keeps,
   ap (λ v. array_copy s.program s.state s.frame s.callers s.next s.rest (stack_value s.leads c.args.source ∷ stack_value s.leads v ∷ stack_value s.leads c.args.target ∷ stack_value s.leads c.args.to ∷ stack_value s.leads c.args.count ∷ more)) c.in-Int.is
-  ∙ ap (λ v. array_copy s.program s.state s.frame s.callers s.next s.rest (stack_value s.leads c.args.source ∷ Int c.in-Int.from ∷ stack_value s.leads c.args.target ∷ stack_value s.leads v ∷ stack_value s.leads c.args.count ∷ more)) c.in-Int-to.is
-  ∙ copy_no_count s.program s.state s.frame s.callers s.next s.rest more (stack_value s.leads c.args.source) c.in-Int.from (stack_value s.leads c.args.target) c.in-Int-to.to (stack_value s.leads c.args.count) (no_int s.leads c.args.count c.in_default-count.not-Int),
+      ∙ ap (λ v. array_copy s.program s.state s.frame s.callers s.next s.rest (stack_value s.leads c.args.source ∷ Int c.in-Int.from ∷ stack_value s.leads c.args.target ∷ stack_value s.leads v ∷ stack_value s.leads c.args.count ∷ more)) c.in-Int-to.is
+      ∙ copy_no_count s.program s.state s.frame s.callers s.next s.rest more (stack_value s.leads c.args.source) c.in-Int.from (stack_value s.leads c.args.target) c.in-Int-to.to (stack_value s.leads c.args.count) (no_int s.leads c.args.count c.in_default-count.not-Int),
 )
 
 pub returns-in-Other : goal.returns-in-Other
 returns-in-Other c s more h n k = (
   h.keeps,
   ap (λ v. array_copy s.program s.state s.frame s.callers s.next s.rest (stack_value s.leads c.args.source ∷ stack_value s.leads v ∷ stack_value s.leads c.args.target ∷ stack_value s.leads c.args.to ∷ stack_value s.leads c.args.count ∷ more)) c.in-Int.is
-  ∙ ap (λ v. array_copy s.program s.state s.frame s.callers s.next s.rest (stack_value s.leads c.args.source ∷ Int c.in-Int.from ∷ stack_value s.leads c.args.target ∷ stack_value s.leads v ∷ stack_value s.leads c.args.count ∷ more)) c.in-Int-to.is
-  ∙ ap (λ v. array_copy s.program s.state s.frame s.callers s.next s.rest (stack_value s.leads c.args.source ∷ Int c.in-Int.from ∷ stack_value s.leads c.args.target ∷ Int c.in-Int-to.to ∷ stack_value s.leads v ∷ more)) c.in-Int-count.is
-  ∙ copy_lacks s.program s.state s.frame s.callers s.next s.rest more (stack_value s.leads c.args.source) (stack_value s.leads c.args.target) c.in-Int.from c.in-Int-to.to c.in-Int-count.count (c.in-Other.ensures s h.keeps n),
+      ∙ ap (λ v. array_copy s.program s.state s.frame s.callers s.next s.rest (stack_value s.leads c.args.source ∷ Int c.in-Int.from ∷ stack_value s.leads c.args.target ∷ stack_value s.leads v ∷ stack_value s.leads c.args.count ∷ more)) c.in-Int-to.is
+      ∙ ap (λ v. array_copy s.program s.state s.frame s.callers s.next s.rest (stack_value s.leads c.args.source ∷ Int c.in-Int.from ∷ stack_value s.leads c.args.target ∷ Int c.in-Int-to.to ∷ stack_value s.leads v ∷ more)) c.in-Int-count.is
+      ∙ copy_lacks s.program s.state s.frame s.callers s.next s.rest more (stack_value s.leads c.args.source) (stack_value s.leads c.args.target) c.in-Int.from c.in-Int-to.to c.in-Int-count.count (c.in-Other.ensures s h.keeps n),
 )
 
 pub returns-in-Null : goal.returns-in-Null
@@ -61,7 +61,7 @@ returns-in-Thing c s more h n k =
     let back_m : cast_signed w32 (cast_unsigned w32 m) ≡ m = search rules in
     let t : ArrayNamed s c.args.source thing shape = array_named s c.args.source thing shape (c.in-Thing.ensures s h.keeps n) in
     let target : Value = stack_value s.leads c.args.target in
-    let outcome = 
+    let outcome =
     ap (λ v. array_copy s.program s.state s.frame s.callers s.next s.rest (stack_value s.leads c.args.source ∷ stack_value s.leads v ∷ stack_value s.leads c.args.target ∷ stack_value s.leads c.args.to ∷ stack_value s.leads c.args.count ∷ more)) c.in-Int.is
     ∙ ap (λ v. array_copy s.program s.state s.frame s.callers s.next s.rest (stack_value s.leads c.args.source ∷ Int c.in-Int.from ∷ stack_value s.leads c.args.target ∷ stack_value s.leads v ∷ stack_value s.leads c.args.count ∷ more)) c.in-Int-to.is
     ∙ ap (λ v. array_copy s.program s.state s.frame s.callers s.next s.rest (stack_value s.leads c.args.source ∷ Int c.in-Int.from ∷ stack_value s.leads c.args.target ∷ Int c.in-Int-to.to ∷ stack_value s.leads v ∷ more)) c.in-Int-count.is

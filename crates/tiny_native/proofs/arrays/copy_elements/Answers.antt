@@ -1,5 +1,4 @@
 use Rattle.std.proofs.Common.{◌≡◌, ◌-◌, [], false, sym, ap, ◌∙◌}
-use Rattle.board_types.specs.declared.board.BoardType.{BoardType}
 use Rattle.board_types.specs.declared.value.Shape.{Shape}
 use Rattle.machine.specs.Data.{type_eq}
 use Rattle.tiny_native.specs.Types.{cli_type}
@@ -16,7 +15,7 @@ returns-then-same_type c s d e h a b =
 pub returns-else-same_type : goal.returns-else-same_type
 returns-else-same_type c s d e h a b =
     let other : type_eq (cli_type d.shape.of) (cli_type e.shape.of) ≡ false =
-        ap (λ (x : Shape). type_eq (cli_type x.of) (cli_type e.shape.of)) (sym a.same)
-        ∙ ap (λ (x : Shape). type_eq (cli_type c.args.source.shape.of) (cli_type x.of)) (sym b.same)
-        ∙ sym (tested_types c.args.source.shape.of c.args.target.shape.of) ∙ sym c.same_type.ensures ∙ c.if-same_type.false in
+    ap (λ (x : Shape). type_eq (cli_type x.of) (cli_type e.shape.of)) (sym a.same)
+    ∙ ap (λ (x : Shape). type_eq (cli_type c.args.source.shape.of) (cli_type x.of)) (sym b.same)
+    ∙ sym (tested_types c.args.source.shape.of c.args.target.shape.of) ∙ sym c.same_type.ensures ∙ c.if-same_type.false in
     (h.keeps, copy_types s.program s.state s.frame s.callers s.next s.rest [] (c.args.target.thing - 1) (cli_type d.shape.of) (cli_type e.shape.of) (elements_of s d) (elements_of s e) c.args.by.from c.args.by.to c.args.by.count other)

@@ -1,4 +1,4 @@
-use Rattle.std.proofs.Common.{◌≡◌, ap, ◌∙◌}
+use Rattle.std.proofs.Common.{ap, ◌∙◌}
 use Rattle.board_types.specs.declared.board.Known.TheVariants.{ArgumentNull}
 use Rattle.machine.specs.Data.{Value}
 use Rattle.machine.specs.Throw.{on_some, raise}

@@ -1,5 +1,4 @@
-use Rattle.std.proofs.Common.{◌≡◌, ℕ, ◌+◌, ◌-◌, ◌≤◌, length}
-use Rattle.std.specs.Prelude.{if◌then◌else◌}
+use Rattle.std.proofs.Common.{◌≡◌, ◌+◌, ◌≤◌, length}
 use Rattle.machine.specs.Data.{Cell}
 use Rattle.tiny_ram.specs.Things.{Entry, Packed, layout_of}
 use Rattle.tiny_ram.specs.Memory.{Memory, IsEntry}

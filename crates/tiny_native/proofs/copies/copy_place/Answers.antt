@@ -1,9 +1,9 @@
-use Rattle.std.proofs.Common.{◌≡◌, List, Option, Some, None, sym, ap, ◌∙◌, subst, get_or}
+use Rattle.std.proofs.Common.{◌≡◌, Option, Some, None, sym, ap, ◌∙◌, subst, get_or}
 use Rattle.std.specs.Prelude.{slice_set}
 use Rattle.plain_types.specs.declared.elem.Elem.TheVariants.{Void}
 use Rattle.board_types.specs.declared.value.Value.{Value}
 use Rattle.ram_words.specs.Elements.{HasKind, cut_by}
-use Rattle.tiny_ram.specs.Things.{Entry, Layout, Packed, Takes, stored_by, layout_of}
+use Rattle.tiny_ram.specs.Things.{Layout, Takes, stored_by, layout_of}
 use Rattle.tiny_ram.specs.Memory.{put_in, shown}
 use Rattle.std.proofs.lemmas.Option.{unwrap_or-slice_get}
 use Rattle.tiny_ram.specs.Region.{Keeps}

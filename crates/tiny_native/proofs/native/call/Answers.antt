@@ -1,5 +1,4 @@
-use Rattle.std.proofs.Common.{◌≡◌, sym, ◌∙◌, subst}
-use Rattle.machine.specs.Program.{native_number}
+use Rattle.std.proofs.Common.{sym, ◌∙◌, subst}
 use Rattle.tiny_native.specs.Names.{native_name}
 use Rattle.tiny_native.specs.Ends.{Meets, native_in}
 use Rattle.tiny_native.proofs.Numbering.{same_name}

@@ -19,3 +19,7 @@ returns-in-StringEquals c s more h na nb =
 pub returns-in-StringCompare : goal.returns-in-StringCompare
 returns-in-StringCompare c s more h na nb =
     subst (λ n. Meets s c.args.ram.now (native_by s (two_name n) (stack_value s.leads c.args.a ∷ stack_value s.leads c.args.b ∷ more)) c.compare.result) (sym c.in-StringCompare.is) (c.compare.ensures s more h na nb)
+
+pub returns-in-EnumEquals : goal.returns-in-EnumEquals
+returns-in-EnumEquals c s more h na nb =
+    subst (λ n. Meets s c.args.ram.now (native_by s (two_name n) (stack_value s.leads c.args.a ∷ stack_value s.leads c.args.b ∷ more)) c.enum_equals.result) (sym c.in-EnumEquals.is) (c.enum_equals.ensures s more h na nb)

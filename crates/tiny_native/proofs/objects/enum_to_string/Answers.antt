@@ -3,7 +3,7 @@ use Rattle.std.specs.Option.{option_map}
 use Rattle.board_types.specs.declared.value.Shape.{Shape}
 use Rattle.machine.specs.Data.{Value, Cell, cell_of}
 use Rattle.machine.specs.Natives.{enum_to_string}
-use Rattle.ram_words.specs.Elements.{type_held, cell_in}
+use Rattle.ram_words.specs.Elements.{cell_in}
 use Rattle.tiny_ops.specs.Operators.{stack_value}
 use Rattle.tiny_ram.specs.Memory.{shown, entry_value}
 use Rattle.tiny_native.specs.Types.{cli_type, is_enum_type}
@@ -31,8 +31,8 @@ returns-else-is_enum c s more h n =
     let other : is_enum_type t.type ≡ false = ap is_enum_type (sym t.box.typed ∙ sym (ap (λ (x : Shape). cli_type x.of) t.same)) ∙ sym c.is_enum.ensures ∙ c.if-is_enum.false in (
       h.keeps,
       ap (λ (w : Value). enum_to_string s.program s.state s.frame s.callers s.next s.rest (w ∷ more)) t.value
-      ∙ to_string_box s.program s.state s.frame s.callers s.next s.rest more (thing - 1) t.type t.held t.at
-      ∙ other_box t.type t.held (text_on s.program s.state s.frame s.callers s.next s.rest more) other,
+          ∙ to_string_box s.program s.state s.frame s.callers s.next s.rest more (thing - 1) t.type t.held t.at
+          ∙ other_box t.type t.held (text_on s.program s.state s.frame s.callers s.next s.rest more) other,
     )
 
 pub returns-then-is_enum : goal.returns-then-is_enum
@@ -44,12 +44,12 @@ returns-then-is_enum c s more h n =
     let enum : is_enum_type t.type ≡ true = ap is_enum_type type ∙ sym c.is_enum.ensures ∙ c.if-is_enum.true in
     let some : 0 < length t.entry.places = omega (arith, t.box.one) in
     let value : stack_value s.leads c.unboxed-value.result ≡ t.held =
-        ap (stack_value s.leads) (c.unboxed-value.ensures s.memory t.entry h.keeps t.is some ∙ ap (λ (x : Shape). shown x.of.elem (entry_value t.entry 0)) t.same) ∙ t.box.held in
+    ap (stack_value s.leads) (c.unboxed-value.ensures s.memory t.entry h.keeps t.is some ∙ ap (λ (x : Shape). shown x.of.elem (entry_value t.entry 0)) t.same) ∙ t.box.held in
     let kind : cell_of t.type ≡ option_map cell_in c.kind_of.result = ap cell_of type ∙ cell_held shape.of ∙ sym c.kind_of.ensures in
     let outcome : enum_to_string s.program s.state s.frame s.callers s.next s.rest (stack_value s.leads c.args.this ∷ more) ≡ number_in_text s (option_map cell_in c.kind_of.result) (stack_value s.leads c.unboxed-value.result) =
-        ap (λ (w : Value). enum_to_string s.program s.state s.frame s.callers s.next s.rest (w ∷ more)) t.value
-        ∙ to_string_box s.program s.state s.frame s.callers s.next s.rest more (thing - 1) t.type t.held t.at
-        ∙ enum_box t.type t.held (text_on s.program s.state s.frame s.callers s.next s.rest more) enum
-        ∙ ap (λ (k : Option Cell). number_in_text s k t.held) kind
-        ∙ ap (λ (v : Value). number_in_text s (option_map cell_in c.kind_of.result) v) (sym value) in
+    ap (λ (w : Value). enum_to_string s.program s.state s.frame s.callers s.next s.rest (w ∷ more)) t.value
+    ∙ to_string_box s.program s.state s.frame s.callers s.next s.rest more (thing - 1) t.type t.held t.at
+    ∙ enum_box t.type t.held (text_on s.program s.state s.frame s.callers s.next s.rest more) enum
+    ∙ ap (λ (k : Option Cell). number_in_text s k t.held) kind
+    ∙ ap (λ (v : Value). number_in_text s (option_map cell_in c.kind_of.result) v) (sym value) in
     subst (λ o. Meets s c.number_text.new.ram o c.number_text.result) (sym outcome) (c.number_text.ensures s h)

@@ -1,5 +1,5 @@
-use Rattle.std.proofs.Common.{◌≡◌, ap, sym, ◌∙◌, subst, rules, w32, w64}
-use Rattle.std.specs.Prelude.{ℤ, pos, decimal}
+use Rattle.std.proofs.Common.{◌≡◌, ap, sym, ◌∙◌, subst, rules, w64}
+use Rattle.std.specs.Prelude.{decimal}
 use Rattle.std.specs.Int.{cast_signed, cast_unsigned}
 use Rattle.machine.specs.Numbers.{long_meant}
 use Rattle.machine.specs.Texts.{decimal_text}

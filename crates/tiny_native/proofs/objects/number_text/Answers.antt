@@ -1,8 +1,8 @@
-use Rattle.std.proofs.Common.{◌≡◌, List, ℕ, Option, Some, sym, ap, ◌∙◌, subst, rules, w32, w64}
+use Rattle.std.proofs.Common.{◌≡◌, List, ℕ, Some, ap, ◌∙◌, subst, rules, w32, w64}
 use Rattle.std.specs.Prelude.{ℤ}
 use Rattle.std.specs.Int.{cast_signed, cast_unsigned}
 use Rattle.std.specs.Option.{option_map}
-use Rattle.machine.specs.Data.{Bits, Int, Long, Value}
+use Rattle.machine.specs.Data.{Bits}
 use Rattle.machine.specs.Numbers.{int_meant, long_meant}
 use Rattle.machine.specs.Texts.{decimal_text}
 use Rattle.ram_words.specs.Elements.{cell_in}

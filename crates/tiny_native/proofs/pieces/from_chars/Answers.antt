@@ -1,11 +1,11 @@
-use Rattle.std.proofs.Common.{◌≡◌, ◌∷◌, ℕ, ◌+◌, ◌-◌, ◌<◌, true, false, List, Option, Some, None, length, map, sym, ap, ◌∙◌, subst, arith, rules, get_or, w32}
+use Rattle.std.proofs.Common.{◌≡◌, ◌∷◌, ℕ, ◌+◌, ◌-◌, true, false, List, Option, Some, None, length, map, sym, ap, ◌∙◌, subst, arith, rules, get_or, w32}
 use Rattle.std.specs.Prelude.{ℤ, unsigned_abs}
 use Rattle.std.specs.Int.{cast_signed, cast_unsigned}
 use Rattle.std.proofs.lemmas.List.{length-map}
 use Rattle.cil_opcodes.specs.declared.shape.IntegerType.TheVariants.{U2}
 use Rattle.board_types.specs.declared.value.Shape.{Shape}
 use Rattle.board_types.specs.declared.value.Value.{Value as BoardValue}
-use Rattle.machine.specs.Data.{Bits, Value, Int, State, cell_of}
+use Rattle.machine.specs.Data.{Bits, Value, Int, cell_of}
 use Rattle.machine.specs.Natives.{is_range, piece, unit_of, string_from_chars}
 use Rattle.ram_words.specs.Elements.{type_held}
 use Rattle.tiny_ops.specs.Operators.{stack_value}
@@ -17,7 +17,7 @@ use Rattle.tiny_native.proofs.ThingKinds.{ArrayNamed, array_named, no_int}
 use Rattle.tiny_native.proofs.Held.{Element, element_held, entry_count}
 use Rattle.tiny_native.proofs.TypeLemmas.{cell_held, array_layout}
 use Rattle.tiny_native.proofs.PieceLemmas.{array_piece, wide_kind}
-use Rattle.tiny_native.proofs.PieceOutcomes.{chars_at, from_chars_null, from_chars_array, from_chars_lacks, from_chars_no_start, from_chars_no_count, wide_cell, other_cell}
+use Rattle.tiny_native.proofs.PieceOutcomes.{from_chars_null, from_chars_array, from_chars_lacks, from_chars_no_start, from_chars_no_count, wide_cell, other_cell}
 use Rattle.tiny_native.proofs.pieces.from_chars.Goals as goal
 
 pub returns-in_default : goal.returns-in_default

@@ -1,4 +1,4 @@
-use Rattle.std.proofs.Common.{◌≡◌, List, ℕ, Option, ◌+◌, length, refl, arith}
+use Rattle.std.proofs.Common.{◌≡◌, ℕ, ◌+◌, length, refl, arith}
 use Rattle.std.proofs.lemmas.List.{length-replicate}
 use Rattle.machine.specs.Natives.{or_empty}
 use Rattle.tiny_ram.specs.Things.{Entry, fresh, fresh_place, layout_of, string_shape}

@@ -1,4 +1,4 @@
-use Rattle.std.proofs.Common.{◌≡◌, ℕ, ◌+◌, ◌<◌, true, List, Some, None, map, length, sym, ap, ◌∙◌, subst, arith, rules, get_or, w32}
+use Rattle.std.proofs.Common.{◌≡◌, ℕ, ◌+◌, Some, None, map, sym, ap, ◌∙◌, subst, arith, rules, get_or, w32}
 use Rattle.std.specs.Prelude.{unsigned_abs}
 use Rattle.std.specs.Int.{cast_signed, cast_unsigned}
 use Rattle.cil_opcodes.specs.declared.shape.IntegerType.TheVariants.{U2}

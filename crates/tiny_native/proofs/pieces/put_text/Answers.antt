@@ -1,4 +1,4 @@
-use Rattle.std.proofs.Common.{◌≡◌, List, ℕ, Option, Some, None, ◌+◌, ◌≤◌, length, map, arith}
+use Rattle.std.proofs.Common.{Some, None, map, arith}
 use Rattle.std.proofs.lemmas.List.{length-map}
 use Rattle.cil_opcodes.specs.declared.shape.IntegerType.TheVariants.{U2}
 use Rattle.machine.specs.Data.{Bits}

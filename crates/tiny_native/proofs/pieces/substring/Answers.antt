@@ -4,7 +4,7 @@ use Rattle.std.specs.Int.{cast_signed, cast_unsigned}
 use Rattle.std.proofs.lemmas.List.{length-map}
 use Rattle.board_types.specs.declared.value.Shape.{Shape}
 use Rattle.board_types.specs.declared.value.Value.{Value as BoardValue}
-use Rattle.machine.specs.Data.{Value, Int, State}
+use Rattle.machine.specs.Data.{Value, Int}
 use Rattle.machine.specs.Natives.{is_range, piece, string_substring}
 use Rattle.tiny_ops.specs.Operators.{stack_value}
 use Rattle.tiny_native.specs.Seen.{unit_place, text_entry}

@@ -3,9 +3,7 @@ use Rattle.std.specs.Int.{cast_signed, cast_unsigned}
 use Rattle.board_types.specs.declared.value.Shape.{Shape}
 use Rattle.tiny_native.specs.Copies.{unit_in_text}
 use Rattle.tiny_native.specs.Ends.{Meets}
-use Rattle.std.specs.Prelude.{ℤ}
-use Rattle.board_types.specs.declared.value.Value.TheVariants as board
-use Rattle.machine.specs.Data.{Value, Int}
+use Rattle.machine.specs.Data.{Int}
 use Rattle.machine.specs.Natives.{string_chars}
 use Rattle.tiny_ops.specs.Operators.{stack_value}
 use Rattle.tiny_native.proofs.ThingKinds.{TextNamed, text_named, no_int}

@@ -1,14 +1,13 @@
-use Rattle.std.proofs.Common.{◌≡◌, ◌∷◌, List, ℕ, Option, Some, None, true, false, refl, sym, ap, ◌∙◌, w32}
-use Rattle.std.specs.Prelude.{ℤ, pos}
+use Rattle.std.proofs.Common.{◌≡◌, ◌∷◌, sym, ap, ◌∙◌, w32}
+use Rattle.std.specs.Prelude.{ℤ}
 use Rattle.std.specs.Int.{cast_signed, cast_unsigned}
 use Rattle.machine.specs.Data.{Int}
-use Rattle.machine.specs.Numbers.{of_bool}
 use Rattle.machine.specs.Throw.{goes}
-use Rattle.machine.specs.Natives.{texts_equal, texts_compared}
+use Rattle.machine.specs.Natives.{texts_compared}
 use Rattle.tiny_ops.specs.Operators.{stack_value}
 use Rattle.tiny_native.specs.Copies.{NamesText}
 use Rattle.tiny_native.specs.Ends.{Same}
-use Rattle.tiny_native.proofs.Orders.{is_none_first, none_first, equal_compared, texts_back}
+use Rattle.tiny_native.proofs.Orders.{texts_back}
 use Rattle.tiny_native.proofs.Outcomes.{compare_texts, compare_first, compare_second}
 use Rattle.tiny_native.proofs.strings.compare.Goals as goal
 

@@ -1,7 +1,5 @@
-use Rattle.std.proofs.Common.{◌≡◌, ◌∷◌, List, ℕ, Option, Some, None, true, false, refl, sym, ap, ◌∙◌, w32}
-use Rattle.std.specs.Prelude.{ℤ, pos}
+use Rattle.std.proofs.Common.{◌≡◌, ◌∷◌, true, false, sym, ap, ◌∙◌, w32}
 use Rattle.std.specs.Int.{cast_signed, cast_unsigned}
-use Rattle.machine.specs.Data.{Int}
 use Rattle.machine.specs.Numbers.{of_bool}
 use Rattle.machine.specs.Throw.{goes}
 use Rattle.machine.specs.Natives.{texts_equal, texts_compared}

@@ -1,4 +1,4 @@
-use Rattle.std.proofs.Common.{◌≡◌, ℕ, None, Some, refl, ap, ◌∙◌}
+use Rattle.std.proofs.Common.{ℕ, None, Some, refl, ap, ◌∙◌}
 use Rattle.machine.specs.Natives.{text_at, units_of}
 use Rattle.machine.specs.Throw.{on_some}
 use Rattle.std.specs.Option.{option_map}

@@ -1,4 +1,4 @@
-use Rattle.std.proofs.Common.{◌≡◌, ◌<◌, ℕ, List, Option, Some, None, w32, ap, ◌∙◌}
+use Rattle.std.proofs.Common.{Some, None, w32, ap, ◌∙◌}
 use Rattle.std.specs.Int.{cast_signed, cast_unsigned}
 use Rattle.tiny_native.proofs.Orders.{texts_back}
 use Rattle.tiny_native.proofs.strings.texts_order.Goals as goal

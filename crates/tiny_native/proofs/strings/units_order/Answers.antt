@@ -1,4 +1,4 @@
-use Rattle.std.proofs.Common.{◌≡◌, ◌⊎◌, inl, inr, ℕ, suc, ◌+◌, ◌<◌, ◌≤◌, List, length, drop, sym, ap, ◌∙◌, subst, arith, get_or, w32}
+use Rattle.std.proofs.Common.{◌≡◌, ◌⊎◌, inl, inr, ℕ, ◌+◌, ◌<◌, ◌≤◌, List, length, drop, sym, ap, ◌∙◌, arith, get_or, w32}
 use Rattle.std.specs.Int.{cast_signed, cast_unsigned}
 use Rattle.machine.specs.Texts.{compared_texts}
 use Rattle.tiny_native.specs.Copies.{number_order}

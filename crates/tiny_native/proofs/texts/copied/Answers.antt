@@ -1,9 +1,9 @@
-use Rattle.std.proofs.Common.{◌≡◌, ℕ, ◌+◌, ◌≤◌, length, refl, arith}
+use Rattle.std.proofs.Common.{◌≡◌, ℕ, length, refl, arith}
 use Rattle.std.proofs.lemmas.List.{length-replicate}
 use Rattle.cil_opcodes.specs.declared.shape.IntegerType.TheVariants.{U2}
 use Rattle.machine.specs.Data.{Bits}
 use Rattle.tiny_ram.specs.Things.{Entry, fresh, fresh_place, layout_of, string_shape}
-use Rattle.tiny_ram.specs.Memory.{Memory, IsEntry, with_entry}
+use Rattle.tiny_ram.specs.Memory.{with_entry}
 use Rattle.tiny_native.proofs.Joined.{copied_text, named_stays}
 use Rattle.tiny_native.proofs.Memories.{last_there}
 use Rattle.tiny_native.proofs.texts.copied.Goals as goal

@@ -1,4 +1,4 @@
-use Rattle.std.proofs.Common.{ℕ, length}
+use Rattle.std.proofs.Common.{length}
 use Rattle.tiny_ram.specs.Memory.{Memory}
 use Rattle.tiny_native.specs.Texts.{Written}
 use Rattle.tiny_native.proofs.texts.put_bytes.Given as goal
