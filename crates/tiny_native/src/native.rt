@@ -56,7 +56,7 @@ pub enum Native {
     Copy,
 }
 
-/// The native of a number; none outside 1 to 17.
+/// The native of a number; none for 1 and 16, which are still to come, and outside 1 to 17.
 fn numbered(number: u16) -> Option<Native>
     ensures { MatchOption result ((n : Native) → native_number (native_name n) ≢ number) (λ n. native_number (native_name n) ≡ number) }
 {
@@ -144,10 +144,10 @@ fn with_arguments(ram: &mut Ram, native: Native, args: &[Value]) -> NativeEnd
     }
 }
 
-/// Calls the native of a number (ECMA-335 II.15.4.3: methods of the runtime) with its arguments, the first one first; more than
-/// it takes are not looked at. `Spent` comes exactly where the cells of its new string are more than there are, and after all else
-/// was looked at; then, and at an exception, and at `NoCase`, the memory is as before. `NoCase` comes exactly where the machine has
-/// no case.
+/// Calls the native of a number, an internal call (ECMA-335 II.15.4.3), with its arguments, the first one first; more than it takes
+/// are not looked at. `Object.ToString` (1) and `InitializeArray` (16) are still to come and answer `NoCase`. `Spent` comes exactly
+/// where the cells of its new string are more than there are, and after all else was looked at; then, and at an exception, and at
+/// `NoCase`, the memory is as before. `NoCase` comes exactly where the machine has no case.
 pub fn call(ram: &mut Ram, number: u16, args: &[Value]) -> NativeEnd
     ensures native { (c : Scene) (n : Native) → native_number (native_name n) ≡ number → Shows c ram.old → AllNamed c args.now → Meets c ram.new (native_in c (native_name n) args.now) result }
     ensures none { (m : Memory) → ((n : Native) → native_number (native_name n) ≢ number) → Keeps ram.old m → (result ≡ NoCase) × Keeps ram.new m }
