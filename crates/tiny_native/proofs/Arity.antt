@@ -2,7 +2,7 @@
 use Rattle.std.proofs.Common.{◌≡◌, ◌<◌, ◌≤◌, List, [], ◌∷◌, length, map, drop, None, refl, arith, get_or}
 use Rattle.board_types.specs.declared.value.Value.{Value as BoardValue}
 use Rattle.machine.specs.Data.{Value}
-use Rattle.machine.specs.Natives.{enum_equals, enum_to_string, array_copy, array_length, string_length, string_chars, string_concat, string_substring, string_equals, string_compare, string_from_chars, string_from_char, number_signed, number_unsigned, debug_print}
+use Rattle.machine.specs.Natives.{object_to_string, enum_equals, enum_to_string, array_copy, array_length, string_length, string_chars, string_concat, string_substring, string_equals, string_compare, string_from_chars, string_from_char, number_signed, number_unsigned, initialize_array, debug_print}
 use Rattle.tiny_ops.specs.Operators.{stack_value}
 use Rattle.std.proofs.lemmas.List.{length-map}
 use Rattle.machine.specs.Program.{ArrayCopy}
@@ -17,7 +17,8 @@ use Rattle.tiny_native.specs.declared.native.OfThree.{OfThree}
 use Rattle.tiny_native.specs.declared.native.OfThree.TheVariants as three
 
 none_one : (s : Scene) (n : OfOne) → native_by s (one_name n) [] ≡ None
-unfolding enum_to_string array_length string_length string_from_char number_signed number_unsigned debug_print
+unfolding object_to_string enum_to_string array_length string_length string_from_char number_signed number_unsigned debug_print
+none_one s one.ObjectToString = refl
 none_one s one.EnumToString = refl
 none_one s one.ArrayLength = refl
 none_one s one.StringLength = refl
@@ -27,20 +28,22 @@ none_one s one.NumberUnsigned = refl
 none_one s one.DebugPrint = refl
 
 none_two : (s : Scene) (n : OfTwo) → native_by s (two_name n) [] ≡ None
-unfolding enum_equals string_chars string_concat string_equals string_compare
+unfolding enum_equals string_chars string_concat string_equals string_compare initialize_array
 none_two s two.EnumEquals = refl
 none_two s two.StringChars = refl
 none_two s two.StringConcat = refl
 none_two s two.StringEquals = refl
 none_two s two.StringCompare = refl
+none_two s two.InitializeArray = refl
 
 one_of_two : (s : Scene) (n : OfTwo) (v : Value) → native_by s (two_name n) (v ∷ []) ≡ None
-unfolding enum_equals string_chars string_concat string_equals string_compare
+unfolding enum_equals string_chars string_concat string_equals string_compare initialize_array
 one_of_two s two.EnumEquals v = refl
 one_of_two s two.StringChars v = refl
 one_of_two s two.StringConcat v = refl
 one_of_two s two.StringEquals v = refl
 one_of_two s two.StringCompare v = refl
+one_of_two s two.InitializeArray v = refl
 
 none_three : (s : Scene) (n : OfThree) → native_by s (three_name n) [] ≡ None
 unfolding string_substring string_from_chars

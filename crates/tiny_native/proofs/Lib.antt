@@ -19,3 +19,6 @@ pub mod CopyOutcomes
 pub mod Enums
 pub mod Numbering
 pub mod BoxEquals
+pub mod Naming
+pub mod Spelled
+pub mod Filling

@@ -4,3 +4,4 @@ pub mod Texts
 pub mod Ends
 pub mod Names
 pub mod Copies
+pub mod Told

@@ -1,5 +1,5 @@
 -- The natives by the number of their arguments, as the machine names them.
-use Rattle.machine.specs.Program.{NativeName, EnumEquals, EnumToString, ArrayLength, ArrayCopy, StringLength, StringChars, StringConcat, StringSubstring, StringEquals, StringCompare, StringFromChars, StringFromChar, NumberSigned, NumberUnsigned, DebugPrint}
+use Rattle.machine.specs.Program.{NativeName, ObjectToString, EnumEquals, EnumToString, ArrayLength, ArrayCopy, StringLength, StringChars, StringConcat, StringSubstring, StringEquals, StringCompare, StringFromChars, StringFromChar, NumberSigned, NumberUnsigned, InitializeArray, DebugPrint}
 use Rattle.tiny_native.specs.declared.native.OfOne.{OfOne}
 use Rattle.tiny_native.specs.declared.native.OfOne.TheVariants as one
 use Rattle.tiny_native.specs.declared.native.OfTwo.{OfTwo}
@@ -10,6 +10,7 @@ use Rattle.tiny_native.specs.declared.native.Native.{Native}
 use Rattle.tiny_native.specs.declared.native.Native.TheVariants.{One, Two, Three, Copy}
 
 abbrev pub one_name : OfOne → NativeName
+one_name one.ObjectToString = ObjectToString
 one_name one.EnumToString = EnumToString
 one_name one.ArrayLength = ArrayLength
 one_name one.StringLength = StringLength
@@ -24,6 +25,7 @@ two_name two.StringChars = StringChars
 two_name two.StringConcat = StringConcat
 two_name two.StringEquals = StringEquals
 two_name two.StringCompare = StringCompare
+two_name two.InitializeArray = InitializeArray
 
 abbrev pub three_name : OfThree → NativeName
 three_name three.StringSubstring = StringSubstring

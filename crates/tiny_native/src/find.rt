@@ -24,6 +24,9 @@ pub const STRING: u8 = 2;
 /// What `Shape::what` is of boxes.
 pub const BOX: u8 = 3;
 
+/// What `Shape::what` is of static fields.
+pub const STATIC: u8 = 5;
+
 /// What a value names.
 #[derive(Clone, Copy)]
 pub(crate) enum Found {

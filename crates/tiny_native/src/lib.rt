@@ -4,7 +4,9 @@
 mod arrays;
 mod copies;
 pub mod ending;
+mod fields;
 mod find;
+mod names;
 pub mod native;
 mod numbers;
 mod objects;

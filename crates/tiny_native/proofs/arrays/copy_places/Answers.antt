@@ -16,14 +16,11 @@ use Rattle.tiny_native.specs.Seen.{Scene, seen}
 use Rattle.tiny_native.specs.Copies.{AllHaveKind, PlaceHasKind, IsElements, elements_of}
 use Rattle.tiny_native.specs.Ends.{NewElements}
 use Rattle.tiny_native.specs.declared.arrays.ArrayAt.{ArrayAt}
-use Rattle.tiny_native.proofs.Held.{Element, element_held, entry_count}
+use Rattle.tiny_native.proofs.Held.{Element, element_held}
+use Rattle.tiny_native.proofs.Filling.{counted}
 use Rattle.tiny_native.proofs.TypeLemmas.{array_layout}
 use Rattle.tiny_native.proofs.Spliced.{laid_spliced, seen_spliced, or_first, or_second}
 use Rattle.tiny_native.proofs.arrays.copy_places.Goals as goal
-
--- an array's count is that of its elements
-counted : (s : Scene) (u : Ram) (x : ArrayAt) (e : Entry) → Keeps u s.memory → IsElements s x e → length (elements_of s e) ≡ x.shape.count
-counted s u x e k h = length-map e.places (seen s.leads) ∙ entry_count u s.memory x.thing e k h.is ∙ sym (ap (λ (t : Shape). t.count) h.same)
 
 -- what is done as the ranges pass or don't
 abbrev ended : Scene → ℕ → Entry → Entry → ℕ → ℕ → ℕ → Bool → Option State
