@@ -1,10 +1,10 @@
 -- Arrays that are filled with numbers, and what the machine makes of it.
-use Rattle.std.proofs.Common.{◌≡◌, ℕ, ◌+◌, ◌-◌, ◌*◌, ◌/◌, ◌^◌, ◌<◌, ◌≤◌, List, ◌∷◌, length, Option, Some, None, sym, ap, ◌∙◌, arith}
+use Rattle.std.proofs.Common.{◌≡◌, ℕ, ◌+◌, ◌-◌, ◌*◌, ◌/◌, ◌^◌, ◌≤◌, List, ◌∷◌, length, Option, Some, None, sym, ap, ◌∙◌, arith}
 use Rattle.std.proofs.lemmas.List.{length-map}
 use Rattle.cil_opcodes.specs.declared.shape.IntegerType.{IntegerType}
 use Rattle.cil_opcodes.specs.declared.shape.IntegerType.TheVariants.{I1, U1, I2, U2, I4, U4, I8, U8}
 use Rattle.board_types.specs.declared.value.Shape.{Shape}
-use Rattle.machine.specs.Data.{Id, Cell, CliType, Bits, bytes_of, cell_of, Value, Handle, Thing, Frame, State}
+use Rattle.machine.specs.Data.{Id, CliType, Bits, bytes_of, cell_of, Value, Handle, Thing, Frame, State}
 use Rattle.machine.specs.Program.{Program}
 use Rattle.machine.specs.Numbers.{as_handle}
 use Rattle.machine.specs.Throw.{on_some}

@@ -1,5 +1,4 @@
--- Which state of the machine a memory stands for, as far as a native looks: the things that its arguments name, and where the next
--- object goes.
+-- Which state of the machine a memory stands for, as far as a native looks.
 use Rattle.std.specs.Prelude.{◌≡◌, ℕ, pos, ◌-◌, ◌<◌, List, [], ◌∷◌, map, length, Option, Some, None}
 use Rattle.board_types.specs.declared.board.TypeAt.{TypeAt}
 use Rattle.board_types.specs.declared.board.BoardType.{BoardType}

@@ -3,19 +3,15 @@ use Rattle.std.specs.Prelude.{nat_lt, ◌||◌, if◌then◌else◌}
 use Rattle.std.proofs.lemmas.Bool.{ltb-false}
 use Rattle.std.proofs.lemmas.List.{length-map}
 use Rattle.board_types.specs.declared.board.Known.TheVariants.{Argument}
-use Rattle.board_types.specs.declared.value.Shape.{Shape}
 use Rattle.machine.specs.Data.{put_thing, Elements, State}
 use Rattle.machine.specs.Throw.{goes, raise}
 use Rattle.machine.specs.Natives.{piece, spliced}
 use Rattle.ram_words.specs.Elements.{type_held}
-use Rattle.tiny_ram.specs.declared.memory.Ram.{Ram}
-use Rattle.tiny_ram.specs.Region.{Keeps}
 use Rattle.tiny_ram.specs.Things.{Entry, Packed, layout_of}
 use Rattle.tiny_native.specs.Types.{cli_type}
 use Rattle.tiny_native.specs.Seen.{Scene, seen}
-use Rattle.tiny_native.specs.Copies.{AllHaveKind, PlaceHasKind, IsElements, elements_of}
+use Rattle.tiny_native.specs.Copies.{AllHaveKind, PlaceHasKind, elements_of}
 use Rattle.tiny_native.specs.Ends.{NewElements}
-use Rattle.tiny_native.specs.declared.arrays.ArrayAt.{ArrayAt}
 use Rattle.tiny_native.proofs.Held.{Element, element_held}
 use Rattle.tiny_native.proofs.Filling.{counted}
 use Rattle.tiny_native.proofs.TypeLemmas.{array_layout}

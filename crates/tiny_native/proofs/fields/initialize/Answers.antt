@@ -1,4 +1,4 @@
-use Rattle.std.proofs.Common.{◌≡◌, ℕ, ◌-◌, ◌∷◌, List, Option, Some, sym, ap, ◌∙◌, subst}
+use Rattle.std.proofs.Common.{◌≡◌, ℕ, ◌-◌, ◌∷◌, List, Option, sym, ap, ◌∙◌, subst}
 use Rattle.board_types.specs.declared.board.Known.TheVariants.{NullReference}
 use Rattle.board_types.specs.declared.value.Shape.{Shape}
 use Rattle.machine.specs.Data.{Cell, CliType, Value, Thing}
@@ -9,7 +9,6 @@ use Rattle.machine.specs.Natives.{initialize_array}
 use Rattle.tiny_ops.specs.Operators.{stack_value}
 use Rattle.tiny_native.specs.Types.{id_of, cli_type}
 use Rattle.tiny_native.specs.Seen.{ValueTold}
-use Rattle.tiny_native.specs.Copies.{elements_of}
 use Rattle.tiny_native.specs.Told.{elements_set}
 use Rattle.tiny_native.specs.Ends.{Meets}
 use Rattle.tiny_native.proofs.ThingKinds.{ArrayNamed, array_named, array_lacks, no_handle}

@@ -1,4 +1,4 @@
-use Rattle.std.proofs.Common.{◌≡◌, ℕ, ◌*◌, ◌≤◌, length}
+use Rattle.std.proofs.Common.{◌≡◌, ◌*◌, ◌≤◌, length}
 use Rattle.machine.specs.Data.{Bits, bytes_of}
 use Rattle.tiny_ops.specs.Operators.{Leads}
 use Rattle.tiny_ram.specs.Things.{Entry, Packed, layout_of}
