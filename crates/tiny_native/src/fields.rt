@@ -1,7 +1,6 @@
 //! Arrays that get their elements from data fields (ECMA-335 II.16.3).
 
-ghost use Rattle.std.specs.Prelude.{◌≡◌, ◌+◌, ◌*◌, ◌∷◌, ◌^◌, ◌<◌, ◌≤◌, not, nat_lt, true, ℕ, List, length, Some, slice_index};
-ghost use Rattle.cil_opcodes.specs.declared.shape.IntegerType.{IntegerType as Width};
+ghost use Rattle.std.specs.Prelude.{◌≡◌, ◌+◌, ◌*◌, ◌∷◌, ◌^◌, ◌<◌, ◌≤◌, not, nat_lt, true, List, length, Some, slice_index};
 ghost use Rattle.machine.specs.Data.{Bits, bytes_of, Value as Seen};
 ghost use Rattle.machine.specs.Program.{InitializeArray};
 ghost use Rattle.machine.specs.Natives.{initialize_array};
