@@ -30,10 +30,14 @@ use Rattle.member_keys.specs.declared.keys.PlaceKey.{PlaceKey}
 use Rattle.member_keys.specs.declared.keys.SignatureKey.{SignatureKey}
 use Rattle.member_keys.specs.declared.keys.MemberKey.{MemberKey}
 use Rattle.member_keys.specs.contracts.keys.ClassIdOrd.TheImpl as class_ord
+use Rattle.member_keys.specs.contracts.keys.ClassIdOrd.TheImpl.Laws as class_laws
+use Rattle.member_keys.specs.contracts.keys.ClassIdPartialEq.TheImpl as class_eq
 use Rattle.member_keys.specs.contracts.keys.ElementKeyOrd.TheImpl as element_ord
 use Rattle.member_keys.specs.contracts.keys.TypeKeyOrd.TheImpl as type_ord
 use Rattle.member_keys.specs.contracts.keys.PlaceKeyOrd.TheImpl as place_ord
 use Rattle.member_keys.specs.contracts.keys.SignatureKeyOrd.TheImpl as signature_ord
+use Rattle.member_keys.specs.contracts.keys.SignatureKeyOrd.TheImpl.Laws as signature_laws
+use Rattle.member_keys.specs.contracts.keys.SignatureKeyPartialEq.TheImpl as signature_eq_impl
 use Rattle.member_keys.specs.contracts.keys.MemberKeyOrd.TheImpl.Laws as member_laws
 use Rattle.member_keys.specs.Seen.{class_seen, element_seen, arrays, type_seen, place_seen, signature_seen, is_member, member_order, FindsMembers}
 
@@ -67,7 +71,7 @@ both a a' b b' e f = ap (λ c. c && b) e ∙ ap (λ c. a' && c) f
 pair : (r t : Ordering) (a b : Bool) → is_eq r ≡ a → is_eq t ≡ b → is_eq (ordering_then r t) ≡ (a && b)
 pair r t a b e f = then_equal r t ∙ both (is_eq r) a (is_eq t) b e f
 
-same_bytes : (xs ys : List ℕ) → bytes_eq xs ys ≡ same_text xs ys
+pub same_bytes : (xs ys : List ℕ) → bytes_eq xs ys ≡ same_text xs ys
 same_bytes [] [] = refl
 same_bytes [] (y ∷ ys) = refl
 same_bytes (x ∷ xs) [] = refl
@@ -173,3 +177,11 @@ member_equal wanted k s e =
 
 pub members_found : (keys : List MemberKey) (places : BTreeMap MemberKey ℕ) → FindsFirst member_order keys places → FindsMembers keys places
 members_found keys places finds wanted s e = finds wanted ∙ position_same (eq_by_cmp member_order wanted) (is_member wanted.name.now (Some (signature_seen s))) (λ k. member_equal wanted k s e) keys
+
+-- ---- what `==` tells
+
+pub same_class : (a b : ClassId) → (class_eq.ghosts).eq a b ≡ id_eq (class_seen a) (class_seen b)
+same_class a b = class_laws.matches_eq-law a b ∙ class_equal a b
+
+pub same_signature : (a b : SignatureKey) → (signature_eq_impl.ghosts).eq a b ≡ signature_eq (signature_seen a) (signature_seen b)
+same_signature a b = signature_laws.matches_eq-law a b ∙ signature_equal a b

@@ -1,0 +1,10 @@
+pub mod SearchLaws
+pub mod ColumnLaws
+pub mod SignatureLaws
+pub mod TypeLaws
+pub mod DataLaws
+pub mod MemberLaws
+pub mod OwnerLaws
+pub mod FieldLaws
+pub mod MethodLaws
+pub mod NativeLaws
