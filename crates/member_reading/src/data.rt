@@ -24,6 +24,7 @@ use std::collections::BTreeMap;
 use type_names::TypeNames;
 
 /// What tells how large the types of a world are.
+#[derive(Drop)]
 pub struct Types<'w, 'a> {
     pub names: &'w TypeNames<'a>,
     pub classes: &'w [Vec<ClassRow<'a>>],
