@@ -9,9 +9,7 @@ ghost use Rattle.cil_world.specs.Members.{IsMembers, AreMembers};
 use crate::library::{count_types, find_library};
 use class_reading::read_classes;
 use class_table::{ClassRow, ClassTable, FieldRow, FileRows, MethodRow};
-use member_reading::{
-    NativeMember, Types, read_fields, read_layouts, read_methods, read_natives,
-};
+use member_reading::{NativeMember, Types, read_fields, read_layouts, read_methods, read_natives};
 use plain_types::fault::NoMemory;
 use std::alloc::Global;
 use type_names::TypeNames;
@@ -42,10 +40,7 @@ fn read_file<'a>(
 }
 
 /// For each file its fields and methods.
-fn read_members<'a>(
-    alloc: Global,
-    types: &Types<'_, 'a>,
-) -> Result<Vec<Members<'a>>, NoMemory>
+fn read_members<'a>(alloc: Global, types: &Types<'_, 'a>) -> Result<Vec<Members<'a>>, NoMemory>
     requires { AreTypes types.now }
     ensures count { IfOk result (λ all. length all.items ≡ length types.now.names.now) }
     ensures members { IfOk result (λ all. AreMembers types.now.names.now all.items) }
@@ -85,10 +80,7 @@ fn join_files<'a>(
 }
 
 /// What the files say of classes.
-pub fn read_table<'a>(
-    alloc: Global,
-    names: &TypeNames<'a>,
-) -> Result<ClassTable<'a>, NoMemory>
+pub fn read_table<'a>(alloc: Global, names: &TypeNames<'a>) -> Result<ClassTable<'a>, NoMemory>
     ensures { IfOk result (IsTable names.now) }
 {
     let classes = read_classes(alloc, names)?;

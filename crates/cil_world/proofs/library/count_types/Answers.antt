@@ -1,7 +1,4 @@
-use Rattle.std.proofs.Common.{◌≡◌, ◌+◌, ◌*◌, ◌<◌, ◌≤◌, ◌^◌, sym, ap, ◌∙◌, arith}
-use Rattle.std.specs.Prelude.{length, map, take}
-use Rattle.world_rows.specs.Rows.{alone}
-use Rattle.world_rows.specs.World.{size_of}
+use Rattle.std.proofs.Common.{arith}
 use Rattle.cil_world.proofs.LibraryLaws.{size_more}
 use Rattle.cil_world.proofs.library.count_types.Goals as goal
 

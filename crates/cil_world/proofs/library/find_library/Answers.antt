@@ -1,4 +1,4 @@
-use Rattle.std.proofs.Common.{◌≡◌, ◌≤◌, length, sym, ap, ◌∙◌, arith}
+use Rattle.std.proofs.Common.{◌≤◌, length, sym, ap, ◌∙◌, arith}
 use Rattle.std.specs.Prelude.{Some}
 use Rattle.cil_world.proofs.LibraryLaws.{library_begins, library_here, library_behind, library_none}
 use Rattle.cil_world.proofs.library.find_library.Goals as goal
