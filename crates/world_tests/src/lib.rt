@@ -1,0 +1,5 @@
+//! Tests of worlds: files and what their tokens name.
+#![tactic(auto)]
+
+#[cfg(test)]
+mod names;
