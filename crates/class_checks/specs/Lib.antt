@@ -1,0 +1,4 @@
+pub mod Bodies
+pub mod Library
+pub mod Parameters
+pub mod Setting
