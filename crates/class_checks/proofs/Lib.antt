@@ -1,4 +1,5 @@
 pub mod BodyLaws
+pub mod EntryLaws
 pub mod LibraryLaws
 pub mod MethodLaws
 pub mod SuperLaws

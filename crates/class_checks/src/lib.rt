@@ -1,6 +1,7 @@
 //! The rules of classes as tests of a table's rows.
 #![tactic(auto)]
 
+mod entry;
 mod library;
 mod members;
 mod places;
@@ -8,6 +9,7 @@ mod setting;
 mod signatures;
 mod supers;
 
+pub use entry::is_main;
 pub use library::{Library, find_library};
 pub use members::{field_stands_well, method_stands_well};
 pub use places::{is_number_class, is_reference_class, is_user};

@@ -1,7 +1,7 @@
 //! What classes are as the types of places.
 
-ghost use Rattle.std.specs.Prelude.{◌≡◌};
-ghost use Rattle.machine.specs.Data.{Basic, elem_cell};
+ghost use Rattle.std.specs.Prelude.{◌≡◌, nat_eq};
+ghost use Rattle.machine.specs.Data.{Basic, elem_cell, elem_number};
 ghost use Rattle.machine_typed.specs.Typing.{is_number, is_refers};
 ghost use Rattle.classes.specs.Queries.{type_of_class};
 ghost use Rattle.member_keys.specs.Seen.{class_seen};
@@ -19,6 +19,36 @@ pub fn is_user(class: ClassId) -> bool
     ensures { result ≡ is_user (class_seen class) }
 {
     class.file >= 2
+}
+
+/// The number of an element.
+fn elem_number(elem: Elem) -> u8
+    ensures { result ≡ elem_number elem }
+{
+    match elem {
+        Elem::Void => 0,
+        Elem::Bool => 1,
+        Elem::Char => 2,
+        Elem::I1 => 3,
+        Elem::U1 => 4,
+        Elem::I2 => 5,
+        Elem::U2 => 6,
+        Elem::I4 => 7,
+        Elem::U4 => 8,
+        Elem::I8 => 9,
+        Elem::U8 => 10,
+        Elem::String => 11,
+        Elem::Object => 12,
+        Elem::Class => 13,
+        Elem::Value => 14,
+    }
+}
+
+/// Whether two elements are the same.
+pub fn is_same_elem(a: Elem, b: Elem) -> bool
+    ensures { result ≡ nat_eq (elem_number a) (elem_number b) }
+{
+    elem_number(a) == elem_number(b)
 }
 
 /// Whether places of an element hold references.
