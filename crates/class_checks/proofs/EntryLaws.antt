@@ -1,10 +1,10 @@
 -- What an entry takes and gives, inside of arrays.
-use Rattle.std.proofs.Common.{◌≡◌, ◌∙◌, ℕ, zero, suc, Bool, true, false, Option, Some, None, refl, sym, ap, arith}
+use Rattle.std.proofs.Common.{◌≡◌, ℕ, zero, suc, Bool, true, false, Option, Some, None, refl, sym, ap, arith}
 use Rattle.std.specs.Prelude.{[], ◌∷◌, ◌&&◌, nat_eq, not, if◌then◌else◌}
 use Rattle.std.proofs.lemmas.Bool.{ne_eqb}
 use Rattle.plain_types.specs.declared.elem.Elem.{Elem}
 use Rattle.plain_types.specs.declared.elem.Elem.TheVariants as elem
-use Rattle.machine.specs.Data.{Id, Basic, ArrayOf, type_eq}
+use Rattle.machine.specs.Data.{Id, Basic, type_eq}
 use Rattle.machine.specs.Trace.{strings}
 use Rattle.classes.specs.Classes.{Classes, SigType, Direct, ByRef, TypeKind, Reference, Builtin, Enumeration, OtherValue}
 use Rattle.classes.specs.Queries.{kind_of, type_by_kind, type_of}
