@@ -1,0 +1,5 @@
+pub mod Bodies
+pub mod Entry
+pub mod Library
+pub mod Parameters
+pub mod Setting
