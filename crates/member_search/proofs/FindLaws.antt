@@ -1,7 +1,6 @@
 -- What an index of members finds.
-use Rattle.std.proofs.Common.{◌≡◌, ℕ, ◌+◌, ◌<◌, ◌≤◌, ◌^◌, Bool, true, false, List, length, Option, Some, None, refl, sym, ap, ◌∙◌, arith}
+use Rattle.std.proofs.Common.{◌≡◌, ℕ, ◌+◌, ◌<◌, ◌^◌, Bool, true, false, List, Option, Some, None, refl, sym, ap, ◌∙◌, arith}
 use Rattle.std.specs.Prelude.{slice_get, is_some, not}
-use Rattle.std.specs.List.{position}
 use Rattle.std.specs.Option.{option_map}
 use Rattle.std.specs.BTreeMap.{get}
 use Rattle.std.proofs.lemmas.Option.{slice_get_within}
@@ -18,7 +17,7 @@ use Rattle.class_table.specs.declared.rows.ClassTable.{ClassTable}
 use Rattle.member_search.specs.declared.sort.Sort.{Sort}
 use Rattle.member_search.specs.declared.index.ClassPlaces.{ClassPlaces}
 use Rattle.member_search.specs.Shown.{Shown, key_shown, is_shown, members_in, first_in, count_in, own_members, own_in, own_member}
-use Rattle.member_search.specs.Index.{FindsOwn, FindsAll, IsIndex}
+use Rattle.member_search.specs.Index.{FindsAll, IsIndex}
 use Rattle.member_search.proofs.SearchLaws.{none_shown, place_within}
 
 abbrev pub placed : ℕ → MemberKey → ClassPlaces → Option Id

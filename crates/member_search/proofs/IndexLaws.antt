@@ -1,5 +1,5 @@
 -- An index made class by class and file by file, and what it finds.
-use Rattle.std.proofs.Common.{◌≡◌, ℕ, ◌+◌, ◌<◌, ◌≤◌, ◌^◌, ◌⊎◌, inl, inr, List, [], ◌∷◌, ◌++◌, length, map, Option, Some, None, refl, sym, subst, ap, ◌∙◌, get_or, arith}
+use Rattle.std.proofs.Common.{◌≡◌, ℕ, ◌+◌, ◌<◌, ◌≤◌, ◌^◌, ◌⊎◌, inl, inr, List, [], ◌∷◌, ◌++◌, length, Some, sym, subst, ap, ◌∙◌, get_or, arith}
 use Rattle.std.specs.Prelude.{slice_get}
 use Rattle.std.specs.Option.{option_map}
 use Rattle.std.proofs.lemmas.Bool.{cases_lt}
@@ -11,7 +11,7 @@ use Rattle.class_table.specs.declared.rows.MethodRow.{MethodRow}
 use Rattle.class_table.specs.declared.rows.FileRows.{FileRows}
 use Rattle.member_search.specs.declared.sort.Sort.{Sort}
 use Rattle.member_search.specs.declared.sort.Sort.TheVariants.{Field, Method}
-use Rattle.member_search.specs.Shown.{Shown, field_shown, method_shown, key_shown, members_in}
+use Rattle.member_search.specs.Shown.{field_shown, method_shown, key_shown, members_in}
 
 -- what holds of the elements of two lists by their places, and of one more of the second
 pub pairs_more : {A B : Type 0} (Holds : A → B → Type 0) (xs : List A) (ys : List B) (k : ℕ) (x : A) (y : B) → length ys ≡ k → slice_get xs k ≡ Some x → Holds x y → ((n : ℕ) (a : A) (b : B) → slice_get xs n ≡ Some a → slice_get ys n ≡ Some b → Holds a b) → (n : ℕ) (a : A) (b : B) → slice_get xs n ≡ Some a → slice_get (ys ++ y ∷ []) n ≡ Some b → Holds a b

@@ -1,5 +1,5 @@
 -- What is found among the members of a class, by keys and by the classes themselves.
-use Rattle.std.proofs.Common.{◌≡◌, ℕ, zero, suc, ◌+◌, ◌-◌, ◌<◌, ◌≤◌, Bool, true, false, not, ◌&&◌, cond, List, [], ◌∷◌, length, map, take, drop, min, Option, Some, None, refl, sym, ap, ◌∙◌, arith, length-drop}
+use Rattle.std.proofs.Common.{◌≡◌, ℕ, suc, ◌+◌, ◌<◌, Bool, true, false, ◌&&◌, cond, List, [], ◌∷◌, length, map, take, drop, Option, Some, None, refl, sym, ap, ◌∙◌, arith, length-drop}
 use Rattle.std.specs.Prelude.{slice_get, unwrap_or}
 use Rattle.std.specs.List.{position, find}
 use Rattle.std.specs.Option.{option_map}
@@ -8,7 +8,7 @@ use Rattle.std.proofs.lemmas.Option.{slice_get_within}
 use Rattle.machine.specs.Data.{Id}
 use Rattle.machine.specs.Texts.{same_text}
 use Rattle.machine.specs.Throw.{on_some}
-use Rattle.classes.specs.Classes.{SigType, Signature, OwnField, OwnMethod}
+use Rattle.classes.specs.Classes.{SigType, Signature}
 use Rattle.classes.specs.Queries.{sig_type_eq, field_signature_eq, method_signature_eq, is_named, is_field_named, methods_of, fields_of, or_else, first_some, chain, find_method, find_field}
 use Rattle.kept_rows.proofs.SelectLaws.{position_step, passes}
 use Rattle.alike.proofs.Lists.{position_map}
@@ -18,8 +18,6 @@ use Rattle.member_keys.specs.declared.keys.SignatureKey.{SignatureKey}
 use Rattle.member_keys.specs.declared.keys.TypeKey.{TypeKey}
 use Rattle.member_keys.specs.Seen.{type_seen, signature_seen, is_member}
 use Rattle.class_table.specs.declared.rows.ClassRow.{ClassRow}
-use Rattle.class_table.specs.declared.rows.FieldRow.{FieldRow}
-use Rattle.class_table.specs.declared.rows.MethodRow.{MethodRow}
 use Rattle.class_table.specs.declared.rows.FileRows.{FileRows}
 use Rattle.class_table.specs.declared.rows.ClassTable.{ClassTable}
 use Rattle.class_table.specs.Seen.{field_seen, method_seen, row_seen, classes_seen}

@@ -1,14 +1,12 @@
-use Rattle.std.proofs.Common.{◌≡◌, ◌+◌, ◌≤◌, List, map, length, refl, sym, ap, ◌∙◌, arith}
+use Rattle.std.proofs.Common.{◌≡◌, ◌+◌, map, sym, ap, ◌∙◌}
 use Rattle.std.specs.Prelude.{Some, None, slice_get}
 use Rattle.std.specs.Option.{option_map}
-use Rattle.std.specs.BTreeMap.{get}
 use Rattle.std.proofs.lemmas.Option.{slice_get-map, slice_get_past}
 use Rattle.machine.specs.Throw.{on_some}
 use Rattle.assemblies.specs.Binding.{id_at}
 use Rattle.type_names.proofs.IndexLaws.{stands_at}
-use Rattle.member_keys.specs.Seen.{class_seen, signature_seen, member_order}
+use Rattle.member_keys.specs.Seen.{class_seen, signature_seen}
 use Rattle.member_search.specs.Shown.{key_shown, own_member}
-use Rattle.member_search.specs.declared.index.ClassPlaces.{ClassPlaces}
 use Rattle.member_search.proofs.FindLaws.{none_when, some_when, none_own, look_is, row_fits, placed}
 use Rattle.member_search.proofs.index.MemberIndex.find_own.Goals as goal
 
