@@ -1,0 +1,5 @@
+pub mod Circles
+pub mod IndexLaws
+pub mod KeyRanges
+pub mod SearchLaws
+pub mod FindLaws

@@ -1,0 +1,10 @@
+//! Members searched in a class and then up its superclasses (ECMA-335 II.22.25).
+#![tactic(auto)]
+
+mod index;
+mod keys;
+mod sort;
+mod up;
+
+pub use index::MemberIndex;
+pub use sort::Sort;
