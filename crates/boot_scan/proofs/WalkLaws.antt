@@ -3,7 +3,7 @@ use Rattle.std.proofs.Common.{◌≡◌, ◌≢◌, ℕ, zero, suc, ◌+◌, ◌
 use mir.Val.{bool_byte}
 use Rattle.std.specs.Prelude.{slice_index, slice_set, if◌then◌else◌}
 use Rattle.std.proofs.lemmas.List.{drop-drop, take-take, take_more_set, length-take-le}
-use Rattle.deploy_model.specs.Banks.{Image, Walked, Stuck, Walks, ends, with_image, on_image, walk, entries, sizes, MOST_IMAGES}
+use Rattle.deploy_model.specs.Banks.{Image, Walked, Stuck, Walks, ends, with_image, on_image, walk, entries, sizes}
 use Rattle.boot_scan.specs.Images.{image_size, image_entry, FORMAT}
 use Rattle.boot_scan.specs.Sets.{image_in, images_of}
 use Rattle.boot_scan.proofs.SeenLaws.{image_inside, entry_alone}

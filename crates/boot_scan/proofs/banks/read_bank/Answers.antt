@@ -1,4 +1,4 @@
-use Rattle.std.proofs.Common.{◌≡◌, ◌+◌, ◌*◌, min, length, ap, sym, ◌∙◌, arith}
+use Rattle.std.proofs.Common.{◌+◌, ◌*◌, ap, sym, ◌∙◌, arith}
 use Rattle.deploy_model.specs.Banks.{holds, bank_marker, judge, walk, bank_of}
 use Rattle.boot_scan.specs.Images.{FORMAT}
 use Rattle.boot_scan.proofs.BankLaws.{front_view, bank_region}

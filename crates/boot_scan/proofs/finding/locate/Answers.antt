@@ -1,4 +1,4 @@
-use Rattle.std.proofs.Common.{◌≡◌, false, ap, sym, ◌∙◌}
+use Rattle.std.proofs.Common.{ap, sym, ◌∙◌}
 use Rattle.deploy_model.specs.Banks.{located, is_late, old_found, bank_found, bank_of, number_in}
 use Rattle.boot_scan.specs.Images.{FORMAT}
 use Rattle.boot_scan.specs.Sets.{found_view}

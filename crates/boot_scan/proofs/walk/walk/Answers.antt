@@ -1,4 +1,4 @@
-use Rattle.std.proofs.Common.{◌≡◌, ◌≢◌, ◌+◌, true, false, drop, ap, sym, ◌∙◌, arith}
+use Rattle.std.proofs.Common.{◌+◌, ap, sym, ◌∙◌}
 use Rattle.deploy_model.specs.Banks.{ends}
 use Rattle.boot_scan.specs.Images.{image_size, image_entry}
 use Rattle.boot_scan.proofs.WalkLaws.{begins, done, one_too_many, missing, goes_on_to, byte_is}
