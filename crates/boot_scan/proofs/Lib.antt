@@ -1,0 +1,5 @@
+pub mod OwnLaws
+pub mod SeenLaws
+pub mod WalkLaws
+pub mod BankLaws
+pub mod ChooseLaws
