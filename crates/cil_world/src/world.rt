@@ -7,6 +7,7 @@ ghost use Rattle.world_rows.specs.World.{ecma_sources};
 ghost use Rattle.type_names.specs.Opening.{files_opened, Opens};
 ghost use Rattle.type_names.specs.Resolved.{type_id, type_resolved};
 ghost use Rattle.class_table.specs.Seen.{classes_seen};
+ghost use Rattle.class_table.specs.Whole.{IsTable};
 
 use crate::table::read_table;
 use cil_tables::Tables;
@@ -84,9 +85,17 @@ impl<'a> World<'a> {
 
     /// What the files say of types and members, each token replaced by what it names (II.22.37, II.22.15, II.22.26).
     pub fn classes(&self) -> &ClassTable<'a>
-        ensures { classes_seen result.now ≡ (ecma_sources self.now).classes }
+        ensures classes { classes_seen result.now ≡ (ecma_sources self.now).classes }
+        ensures rows { IsTable self.now result.now }
     {
         &self.classes
+    }
+
+    /// The files and what their references to types name.
+    pub fn names(&self) -> &TypeNames<'a>
+        ensures { result.now ≡ self.now }
+    {
+        &self.names
     }
 
     /// The class or interface that a TypeDef or TypeRef token of a file names (ECMA-335 II.22.37, II.22.38): a type of

@@ -1,5 +1,4 @@
-use Rattle.class_table.proofs.TableLaws.{table_law}
 use Rattle.cil_world.proofs.world.World.new.Goals as goal
 
 pub invariant_of-result : goal.invariant_of-result
-invariant_of-result c = record { classes = table_law _ _ c.in-Ok-read_table.ensures }
+invariant_of-result c = record { table = c.in-Ok-read_table.ensures }
