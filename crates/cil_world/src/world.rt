@@ -3,6 +3,7 @@
 ghost use Rattle.std.specs.Prelude.{◌≡◌, ◌<◌, ◌≤◌, Some, length, map, slice_get};
 ghost use Rattle.std.specs.Option.{option_map};
 ghost use Rattle.std.specs.Result.{result_ok};
+ghost use Rattle.world_rows.specs.Read.{TypesStand};
 ghost use Rattle.world_rows.specs.World.{ecma_sources};
 ghost use Rattle.type_names.specs.Opening.{files_opened, Opens};
 ghost use Rattle.type_names.specs.Resolved.{type_id, type_resolved};
@@ -59,10 +60,12 @@ impl<'a> World<'a> {
         Ok(World { names, classes })
     }
 
-    /// How many files the world has: the two of the base library and any others.
+    /// How many files the world has: the two of the base library and any others. The rows of their types keep rule 12, so that no two
+    /// types of a file list one field or one method (II.22.37).
     pub fn files(&self) -> u16
         ensures count { result ≡ length self.now }
         ensures base { 2 ≤ result }
+        ensures stand { TypesStand self.now }
     {
         self.names.files()
     }

@@ -98,7 +98,7 @@ module _ (files : List FilePart) (t : ClassTable) (table : IsTable files t) wher
   abbrev ps : List Assembly
   ps = assemblies_of files
 
-  assembly_at : (file : ℕ) → slice_get ps file ≡ option_map (assembly_with k files (rows_alone files) file) (slice_get files file)
+  pub assembly_at : (file : ℕ) → slice_get ps file ≡ option_map (assembly_with k files (rows_alone files) file) (slice_get files file)
   unfolding assemblies_of
   assembly_at file = get_numbered (assembly_with k files (rows_alone files)) 0 file files ∙ ap (λ n. option_map (assembly_with k files (rows_alone files) n) (slice_get files file)) (from_none file)
 
@@ -111,10 +111,10 @@ module _ (files : List FilePart) (t : ClassTable) (table : IsTable files t) wher
     outlines : map outline_seen f.classes.items ≡ map (outline_of k ps file) p.types
     outlines = is_file.classes ∙ ap (λ o. unwrap_or (option_map (λ (q : Assembly). map (outline_of k ps file) q.types) o) []) there
 
-    own_fields : numbered (field_seen file) 0 f.fields.items ≡ numbered (own_field k ps file) 0 p.fields
+    pub own_fields : numbered (field_seen file) 0 f.fields.items ≡ numbered (own_field k ps file) 0 p.fields
     own_fields = is_file.fields.fields ∙ ap (λ o. numbered (own_field k ps file) 0 (unwrap_or (option_map (λ (q : Assembly). q.fields) o) [])) there
 
-    own_methods : numbered (method_seen file) 0 f.methods.items ≡ numbered (own_method k ps file) 0 p.methods
+    pub own_methods : numbered (method_seen file) 0 f.methods.items ≡ numbered (own_method k ps file) 0 p.methods
     own_methods = is_file.methods.methods ∙ ap (λ o. numbered (own_method k ps file) 0 (unwrap_or (option_map (λ (q : Assembly). q.methods) o) [])) there
 
     class_is : (n : ℕ) → option_map (row_seen file f) (slice_get f.classes.items n) ≡ option_map (class_with k ps file p) (slice_get p.types n)
@@ -130,7 +130,7 @@ module _ (files : List FilePart) (t : ClassTable) (table : IsTable files t) wher
 
   -- ---- by files that are there and those that aren't
 
-  by_file : {A : Type 0} (F : FileRows → Option A) (P : Assembly → Option A) (file : ℕ) → ((f : FileRows) (p : Assembly) → slice_get t.files.items file ≡ Some f → slice_get ps file ≡ Some p → F f ≡ P p) → on_some (slice_get t.files.items file) F ≡ on_some (slice_get ps file) P
+  pub by_file : {A : Type 0} (F : FileRows → Option A) (P : Assembly → Option A) (file : ℕ) → ((f : FileRows) (p : Assembly) → slice_get t.files.items file ≡ Some f → slice_get ps file ≡ Some p → F f ≡ P p) → on_some (slice_get t.files.items file) F ≡ on_some (slice_get ps file) P
   by_file F P file same = go (slice_get t.files.items file) refl (slice_get files file) refl
     where
       count : length t.files.items ≡ length files

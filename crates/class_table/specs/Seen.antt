@@ -1,7 +1,7 @@
 -- The table seen as the classes that it tells of.
 use Rattle.std.specs.Prelude.{nat_eq, ℕ, List, [], map, Option, Some, None, slice_get, unwrap_or}
 use Rattle.std.specs.List.{find}
-use Rattle.std.specs.Option.{option_map}
+use Rattle.std.specs.Option.{option_copied, option_map}
 use Rattle.machine.specs.Data.{Id}
 use Rattle.machine.specs.Program.{native_number, Body, Code, Native, Missing}
 use Rattle.machine.specs.Throw.{on_some}
@@ -31,7 +31,7 @@ abbrev pub field_kind_seen : FieldColumn → FieldKind
 field_kind_seen field.Instance = InstanceField
 field_kind_seen field.Static = StaticField
 field_kind_seen field.Literal = LiteralField
-field_kind_seen (field.Data bytes) = DataField bytes.now
+field_kind_seen (field.Data bytes) = DataField (unwrap_or (option_copied bytes) [])
 
 -- the native of a number, if there is one
 abbrev pub native_seen : ℕ → Body

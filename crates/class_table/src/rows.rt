@@ -23,8 +23,8 @@ pub enum FieldKind<'a> {
     /// Static, and neither literal nor with data.
     Static,
     Literal,
-    /// Static with data: its bytes, empty where it has none in a section.
-    Data(&'a [u8]),
+    /// Static with data: its bytes, `None` where it has none in a section.
+    Data(Option<&'a [u8]>),
 }
 
 /// What runs where a method is called.

@@ -1,5 +1,5 @@
 -- The fields of a file, row by row.
-use Rattle.std.proofs.Common.{◌≡◌, ◌⊎◌, inl, inr, ℕ, ◌+◌, ◌<◌, ◌≤◌, List, [], map, length, take, Option, Some, None, refl, sym, ap, ◌∙◌, arith, add-one}
+use Rattle.std.proofs.Common.{◌≡◌, ◌⊎◌, inl, inr, ℕ, ◌+◌, ◌<◌, ◌≤◌, List, [], map, length, take, Option, Some, None, refl, sym, ap, ◌∙◌, arith, add-one, subst, ◌∷◌, ◌++◌}
 use Rattle.std.specs.Prelude.{slice_get, unwrap_or}
 use Rattle.std.specs.Option.{option_map}
 use Rattle.std.proofs.lemmas.Bool.{cases_lt}
@@ -15,7 +15,11 @@ use Rattle.world_rows.specs.Tokens.{fields, text_at, bytes_at}
 use Rattle.world_rows.specs.Rows.{field_row, field_kind}
 use Rattle.world_rows.specs.Kinds.{data_of}
 use Rattle.world_rows.specs.World.{assembly_with, rows_alone, assemblies_of}
+use Rattle.type_names.proofs.Resolving.{got_last}
 use Rattle.class_table.specs.declared.rows.ClassRow.{ClassRow}
+use Rattle.class_table.specs.declared.rows.FieldKind.{FieldKind as FieldColumn}
+use Rattle.class_table.specs.declared.rows.FieldRow.{FieldRow}
+use Rattle.class_table.specs.Whole.{HasData}
 use Rattle.class_table.specs.Outlines.{outline_seen, outline_of, outlines_at}
 use Rattle.member_reading.specs.Owners.{first_span}
 use Rattle.member_reading.specs.Meant.{scopes, field_type_meant}
@@ -50,14 +54,19 @@ module _ (files : List FilePart) (file : ℕ) (m : MetadataPart) (tables : optio
       by : (f : FilePart) × (slice_get files file ≡ Some f) × (f.metadata ≡ m) → field_type_meant files file blob ≡ expanded k qs file (field_signature m blob)
       by (f, here, same) = ap (λ o. on_some o (λ x. expanded k qs file (field_signature x.metadata blob))) here ∙ ap (λ x. expanded k qs file (field_signature x blob)) same
 
-  filled_is : (n : ℕ) → n < row_count m fields → filled n ≡ unwrap_or (data_by files file n (field_type_meant files file (bytes_at m (column_of m fields (n + 1) 2)))) []
-  filled_is n within = by (with_tables (slice_get files file) m tables)
+  data_here : (n : ℕ) → n < row_count m fields → data_of k files (rows_alone files) (id_at file n) ≡ data_by files file n (field_type_meant files file (bytes_at m (column_of m fields (n + 1) 2)))
+  data_here n within = by (with_tables (slice_get files file) m tables)
     where
-      by : (f : FilePart) × (slice_get files file ≡ Some f) × (f.metadata ≡ m) → filled n ≡ unwrap_or (data_by files file n (field_type_meant files file (bytes_at m (column_of m fields (n + 1) 2)))) []
+      by : (f : FilePart) × (slice_get files file ≡ Some f) × (f.metadata ≡ m) → data_of k files (rows_alone files) (id_at file n) ≡ data_by files file n (field_type_meant files file (bytes_at m (column_of m fields (n + 1) 2)))
       by (f, here, same) =
-          ap (λ o. unwrap_or o [])
-          (data_is files file n f (row_of m fields (n + 1)) here (ap (λ x. slice_get (rows_of x fields) n) same ∙ row_there m fields n within)
-          ∙ ap (λ x. data_by files file n (field_type_meant files file (bytes_at x (column_of m fields (n + 1) 2)))) same)
+          data_is files file n f (row_of m fields (n + 1)) here (ap (λ x. slice_get (rows_of x fields) n) same ∙ row_there m fields n within)
+          ∙ ap (λ x. data_by files file n (field_type_meant files file (bytes_at x (column_of m fields (n + 1) 2)))) same
+
+  filled_is : (n : ℕ) → n < row_count m fields → filled n ≡ unwrap_or (data_by files file n (field_type_meant files file (bytes_at m (column_of m fields (n + 1) 2)))) []
+  filled_is n within = ap (λ o. unwrap_or o []) (data_here n within)
+
+  pub bytes_read : (n : ℕ) (signature : Option SigType) (kind : FieldColumn) → n < row_count m fields → signature ≡ field_type_meant files file (bytes_at m (column_of m fields (n + 1) 2)) → HasData kind (data_by files file n signature) → HasData kind (data_of k files (rows_alone files) (id_at file n))
+  bytes_read n signature kind within e has = subst (HasData kind) (ap (data_by files file n) e ∙ sym (data_here n within)) has
 
   made : (name name' : List ℕ) (signature signature' : Option SigType) (kind kind' : FieldKind) (n : ℕ) → name ≡ name' → signature ≡ signature' → kind ≡ kind' → ◌≡◌ {A = OwnField} (record { id = id_at file n; name = name; signature = signature; kind = kind }) (record { id = id_at file n; name = name'; signature = signature'; kind = kind' })
   made name name' signature signature' kind kind' n e g h =
@@ -82,6 +91,13 @@ module _ (files : List FilePart) (file : ℕ) (m : MetadataPart) (tables : optio
 
   pub fields_done : {A : Type 0} (seen : ℕ → A → OwnField) (rows : List A) (n : ℕ) → numbered seen 0 rows ≡ numbered (λ n row. own_field k qs file n (field_row m filled n row)) 0 (take n (rows_of m fields)) → row_count m fields ≤ n → numbered seen 0 rows ≡ numbered (own_field k qs file) 0 (fields_in files file)
   fields_done seen rows n known past = known ∙ ap (numbered (λ n row. own_field k qs file n (field_row m filled n row)) 0) (all_taken (rows_of m fields) n past) ∙ sym fields_are
+
+  pub bytes_more : (there : ℕ → Option (List ℕ)) (rows : List FieldRow) (row : FieldRow) (n : ℕ) → length rows ≡ n → ((i : ℕ) (x : FieldRow) → slice_get rows i ≡ Some x → HasData x.kind (there i)) → HasData row.kind (there n) → (i : ℕ) (x : FieldRow) → slice_get (rows ++ row ∷ []) i ≡ Some x → HasData x.kind (there i)
+  bytes_more there rows row n count each last i x e = go (got_last rows row i x e)
+    where
+      go : (slice_get rows i ≡ Some x) ⊎ ((i ≡ length rows) × (row ≡ x)) → HasData x.kind (there i)
+      go (inl at) = each i x at
+      go (inr (at, same)) = subst (λ j. HasData x.kind (there j)) (sym (at ∙ count)) (subst (λ y. HasData y.kind (there n)) same last)
 
   -- the types that have them
   pub field_owners : (classes : List ClassRow) (owners : List (Option ℕ)) → map outline_seen classes ≡ outlines_at files file → length owners ≡ row_count m fields → ((n : ℕ) → n < row_count m fields → slice_get owners n ≡ Some (first_span (map field_span classes) n)) → (n : ℕ) → on_some (slice_get owners n) (option_map (id_at file)) ≡ field_owner qs (id_at file n)

@@ -7,9 +7,12 @@ ghost use Rattle.machine.specs.Throw.{on_some};
 ghost use Rattle.assemblies.specs.Binding.{id_at, numbered, own_field, field_owner};
 ghost use Rattle.world_rows.specs.Rows as rows;
 ghost use Rattle.world_rows.specs.Tokens as tokens;
-ghost use Rattle.world_rows.specs.World.{assemblies_of};
+ghost use Rattle.world_rows.specs.Kinds.{data_of};
+ghost use Rattle.world_rows.specs.World.{rows_alone, assemblies_of};
 ghost use Rattle.member_keys.specs.Seen.{type_seen};
+ghost use Rattle.class_table.specs.declared.rows.FieldRow.{FieldRow as Row};
 ghost use Rattle.class_table.specs.Seen.{field_seen, field_kind_seen};
+ghost use Rattle.class_table.specs.Whole.{HasData};
 ghost use Rattle.member_reading.specs.Data.{AreTypes, FindsData, data_by};
 ghost use Rattle.member_reading.specs.Meant.{scopes};
 ghost use Rattle.member_reading.specs.Members.{fields_in, field_meant};
@@ -42,13 +45,14 @@ fn read_kind<'a>(
     requires file { file < length types.now.names.now }
     requires row { n + 1 < 2 ^ 32 }
     requires places { FindsData types.now.names.now file places.now }
-    ensures { field_kind_seen result ≡ rows.field_kind flags (unwrap_or (data_by types.now.names.now file n (option_map type_seen of)) []) }
+    ensures kind { field_kind_seen result ≡ rows.field_kind flags (unwrap_or (data_by types.now.names.now file n (option_map type_seen of)) []) }
+    ensures bytes { HasData result (data_by types.now.names.now file n (option_map type_seen of)) }
 {
     let flags = u64::from(flags);
     if !has_bit(flags, 4) {
         FieldKind::Instance
     } else if has_bit(flags, 8) {
-        FieldKind::Data(read_data(types, places, file, n, of).unwrap_or(&[]))
+        FieldKind::Data(read_data(types, places, file, n, of))
     } else if has_bit(flags, 6) {
         FieldKind::Literal
     } else {
@@ -73,6 +77,7 @@ fn read_field<'a>(
     requires places { FindsData types.now.names.now file places.now }
     ensures row { field_seen file n result ≡ field_meant types.now.names.now file tables.now n }
     ensures owner { result.owner ≡ owner }
+    ensures bytes { HasData result.kind (data_of (scopes types.now.names.now) types.now.names.now (rows_alone types.now.names.now) (id_at file n)) }
 {
     let _few = tables.rows(FIELD);
     let row: cil_rows::FieldRow = read_row(tables, n + 1);
@@ -111,7 +116,7 @@ fn field_owners(
 }
 
 /// The fields of a file in the order of their rows: names, signatures and kinds as the world's assemblies have them, and the first type
-/// of the file in whose range each lies.
+/// of the file in whose range each lies; a field with data says its bytes, and `None` where it has none in a section (II.16.3.2).
 pub fn read_fields<'a>(
     alloc: Global,
     types: &Types<'_, 'a>,
@@ -121,6 +126,7 @@ pub fn read_fields<'a>(
     requires file { file < length types.now.names.now }
     ensures rows { IfOk result (λ rows. numbered (field_seen file) 0 rows.items ≡ numbered (own_field (scopes types.now.names.now) (assemblies_of types.now.names.now) file) 0 (fields_in types.now.names.now file)) }
     ensures owners { IfOk result (λ rows. (n : ℕ) → on_some (slice_get rows.items n) (λ row. option_map (id_at file) row.owner) ≡ field_owner (assemblies_of types.now.names.now) (id_at file n)) }
+    ensures bytes { IfOk result (λ rows. (n : ℕ) (row : Row) → slice_get rows.items n ≡ Some row → HasData row.kind (data_of (scopes types.now.names.now) types.now.names.now (rows_alone types.now.names.now) (id_at file n))) }
 {
     let tables = types.names.tables(file);
     let places = data_places(alloc, types.names, file)?;

@@ -94,7 +94,7 @@ module _ (t : ClassTable) (name : List ℕ) where
     abbrev wanted_method : Shown
     wanted_method = record { name = name; signature = signature }
 
-    own_method_is : (c : Id) → own_member Method t wanted_method c ≡ option_map (λ m. m.id) (find (is_named name signature) (methods_of (classes_seen t) c))
+    pub own_method_is : (c : Id) → own_member Method t wanted_method c ≡ option_map (λ m. m.id) (find (is_named name signature) (methods_of (classes_seen t) c))
     own_method_is c = go (slice_get t.files.items c.file)
       where
         of_class : (f : FileRows) (o : Option ClassRow) → on_some o (λ k. option_map (λ n. id_at c.file (k.first_method + n)) (position (is_shown wanted_method) (range k.first_method k.method_count (map method_shown f.methods.items)))) ≡ option_map (λ m. m.id) (find (is_named name signature) (unwrap_or (option_map (λ k. k.methods) (option_map (row_seen c.file f) o)) []))
@@ -125,7 +125,7 @@ module _ (t : ClassTable) (name : List ℕ) where
         go (Some t) None = refl
         go (Some t) (Some u) = sym (and_true (sig_type_eq (type_seen t) u))
 
-    own_field_is : (c : Id) → own_member Field t wanted_field c ≡ option_map (λ m. m.id) (find (is_field_named name of) (fields_of (classes_seen t) c))
+    pub own_field_is : (c : Id) → own_member Field t wanted_field c ≡ option_map (λ m. m.id) (find (is_field_named name of) (fields_of (classes_seen t) c))
     own_field_is c = go (slice_get t.files.items c.file)
       where
         of_class : (f : FileRows) (o : Option ClassRow) → on_some o (λ k. option_map (λ n. id_at c.file (k.first_field + n)) (position (is_shown wanted_field) (range k.first_field k.field_count (map field_shown f.fields.items)))) ≡ option_map (λ m. m.id) (find (is_field_named name of) (unwrap_or (option_map (λ k. k.fields) (option_map (row_seen c.file f) o)) []))

@@ -26,8 +26,8 @@ fn copy_signature(alloc: Global, signature: &SignatureKey) -> Result<SignatureKe
     })
 }
 
-/// The key of a field: its signature is one of its type as the result.
-fn field_key<'a>(alloc: Global, field: &FieldRow<'a>) -> MemberKey<'a>
+/// The key of a field (ECMA-335 II.22.15): its signature is one of its type as the result, and `None` where it has none.
+pub fn field_key<'a>(alloc: Global, field: &FieldRow<'a>) -> MemberKey<'a>
     ensures { key_shown result ≡ field_shown field.now }
 {
     let signature = match field.signature {
@@ -44,8 +44,8 @@ fn field_key<'a>(alloc: Global, field: &FieldRow<'a>) -> MemberKey<'a>
     }
 }
 
-/// The key of a method.
-fn method_key<'a>(alloc: Global, method: &MethodRow<'a>) -> Result<MemberKey<'a>, NoMemory>
+/// The key of a method (ECMA-335 II.22.26), with a signature of its own.
+pub fn method_key<'a>(alloc: Global, method: &MethodRow<'a>) -> Result<MemberKey<'a>, NoMemory>
     ensures { IfOk result (λ key. key_shown key ≡ method_shown method.now) }
 {
     let signature = match &method.signature {

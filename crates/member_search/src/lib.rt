@@ -7,4 +7,5 @@ mod sort;
 mod up;
 
 pub use index::MemberIndex;
+pub use keys::{field_key, method_key};
 pub use sort::Sort;
