@@ -1,18 +1,20 @@
 //! Rules on the entry (ECMA-335 II.15.4.1.2).
 
-ghost use Rattle.std.specs.Prelude.{◌≡◌, ℕ, [], ◌∷◌, map};
-ghost use Rattle.std.specs.Option.{option_map};
+ghost use Rattle.std.specs.Prelude.{◌≡◌, ℕ, ◌&&◌, Some, [], ◌∷◌, map};
+ghost use Rattle.std.specs.Option.{option_copied, option_map};
 ghost use Rattle.machine.specs.Data.{Basic, type_eq};
 ghost use Rattle.machine.specs.Trace.{strings};
 ghost use Rattle.classes.specs.Queries.{type_of, type_of_class};
+ghost use Rattle.assemblies.specs.Binding.{holds};
 ghost use Rattle.member_keys.specs.Seen.{class_seen, element_seen, type_seen, place_seen, signature_seen};
 ghost use Rattle.class_table.specs.Seen.{classes_seen, method_seen};
-ghost use Rattle.class_rules.specs.Rules.{is_main, main_gives, main_takes};
-ghost use Rattle.class_checks.specs.Entry.{is_main_signature};
+ghost use Rattle.class_queries.specs.Found.{found_row};
+ghost use Rattle.class_rules.specs.Rules.{holds_some, is_main, main_gives, main_takes};
+ghost use Rattle.class_checks.specs.Entry.{entry_test, is_main_signature, method_found};
 
 use crate::places::{is_same_elem, is_user};
-use class_queries::kind;
-use class_table::{ClassTable, MethodRow, TypeKind};
+use class_queries::{find_class, kind};
+use class_table::{ClassRow, ClassTable, MethodRow, TypeKind};
 use member_keys::{ClassId, ElementKey, PlaceKey, SignatureKey, TypeKey};
 use plain_types::elem::Elem;
 
@@ -91,6 +93,58 @@ pub fn is_main(table: &ClassTable<'_>, owner: ClassId, method: &MethodRow<'_>) -
         Some(signature) => {
             is_user(owner) && method.is_static && is_main_signature(table, signature)
         }
+        None => false,
+    }
+}
+
+/// Whether a class has the method of a row.
+fn has_method(class: &ClassRow<'_>, row: u32) -> bool
+    ensures { result ≡ holds class.now.first_method class.now.method_count row }
+{
+    class.first_method <= row && row - class.first_method < class.method_count
+}
+
+/// Whether a class has the method of a row, and that may be the entry there.
+fn begins_at(table: &ClassTable<'_>, owner: ClassId, row: u32, method: &MethodRow<'_>) -> bool
+    ensures { (file n : ℕ) → result ≡ holds_some (found_row table.now (class_seen owner)) (λ k. holds k.first_method k.method_count row && is_main (classes_seen table.now) (class_seen owner) (method_seen file n method.now)) }
+{
+    match find_class(table, owner) {
+        Some(class) => has_method(class, row) && is_main(table, owner, method),
+        None => false,
+    }
+}
+
+/// The row of a method, which counts from 0 in its file.
+fn find_method<'t, 'a>(table: &'t ClassTable<'a>, place: ClassId) -> Option<&'t MethodRow<'a>>
+    ensures { option_copied result ≡ method_found table.now (class_seen place) }
+{
+    let file = table.files.get(place.file as usize)?;
+    file.methods.get(place.row as usize)
+}
+
+/// Whether a method with a row is of a type, and may be the entry there.
+fn method_begins(table: &ClassTable<'_>, place: ClassId, method: &MethodRow<'_>) -> bool
+    requires { method_found table.now (class_seen place) ≡ Some method.now }
+    ensures { result ≡ entry_test table.now (class_seen place) }
+{
+    match method.owner {
+        Some(row) => {
+            let owner = ClassId {
+                file: place.file,
+                row,
+            };
+            begins_at(table, owner, place.row, method)
+        }
+        None => false,
+    }
+}
+
+/// Whether the method of a row, which counts from 0 in its file, is of a type, and may be the entry there (ECMA-335 II.15.4.1.2).
+pub fn entry_well(table: &ClassTable<'_>, place: ClassId) -> bool
+    ensures { result ≡ entry_test table.now (class_seen place) }
+{
+    match find_method(table, place) {
+        Some(method) => method_begins(table, place, method),
         None => false,
     }
 }

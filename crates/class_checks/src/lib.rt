@@ -8,8 +8,9 @@ mod places;
 mod setting;
 mod signatures;
 mod supers;
+mod values;
 
-pub use entry::is_main;
+pub use entry::{entry_well, is_main};
 pub use library::{Library, find_library};
 pub use members::{field_stands_well, method_stands_well};
 pub use places::{is_number_class, is_reference_class, is_user};
@@ -21,3 +22,4 @@ pub use signatures::{
 pub use supers::{
     extends_well, is_enclosed_well, is_sub, may_be_extended, may_be_implemented, under_object,
 };
+pub use values::{has_no_field, has_no_instance_field, value_well};
