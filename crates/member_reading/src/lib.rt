@@ -13,6 +13,7 @@ mod signature;
 
 pub use data::{Types, read_layouts};
 pub use field::read_fields;
+pub use member::bytes;
 pub use method::read_methods;
 pub use native::{NativeMember, read_natives};
 pub use signature::{read_signature, read_type};
