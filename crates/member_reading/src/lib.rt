@@ -11,6 +11,7 @@ mod native;
 mod owner;
 mod signature;
 
+pub use column::{first_row, first_rows};
 pub use data::{Types, read_layouts};
 pub use field::read_fields;
 pub use method::read_methods;

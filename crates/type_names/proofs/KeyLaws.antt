@@ -39,7 +39,7 @@ same_bytes [] (y ∷ ys) = refl
 same_bytes (x ∷ xs) [] = refl
 same_bytes (x ∷ xs) (y ∷ ys) = ap (λ b. (x == y) && b) (same_bytes xs ys)
 
-text_equal : (xs ys : List ℕ) → is_eq (slice_cmp nat_cmp xs ys) ≡ same_text xs ys
+pub text_equal : (xs ys : List ℕ) → is_eq (slice_cmp nat_cmp xs ys) ≡ same_text xs ys
 text_equal xs ys = is_eq-slice_cmp xs ys ∙ same_bytes xs ys
 
 row_equal : (a b : Option ℕ) → is_eq (option_cmp nat_cmp a b) ≡ same_row a b

@@ -17,5 +17,5 @@ pub use keys::{AssemblyKey, NameKey, Version};
 pub use names::type_places;
 pub use read::{assembly_key, text, type_keys};
 pub use refusal::{Unresolved, WorldRefusal};
-pub use token::{Token, split};
+pub use token::{Token, split, split_token};
 pub use world::TypeNames;
