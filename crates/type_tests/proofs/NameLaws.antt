@@ -1,6 +1,6 @@
 -- The first file of an assembly's name.
-use Rattle.std.proofs.Common.{◌≡◌, ◌∙◌, ℕ, suc, ◌+◌, ◌<◌, ◌≤◌, Bool, List, [], ◌∷◌, ◌++◌, length, map, take, Option, Some, None, refl, sym, ap, add-one}
-use Rattle.std.specs.Prelude.{slice_get, not, ◌==◌, ◌&&◌}
+use Rattle.std.proofs.Common.{◌≡◌, ◌∙◌, ℕ, suc, ◌+◌, List, [], ◌∷◌, ◌++◌, length, map, take, Option, Some, None, refl, sym, ap}
+use Rattle.std.specs.Prelude.{slice_get, ◌==◌, ◌&&◌}
 use Rattle.std.specs.List.{list_any, position}
 use Rattle.std.specs.Option.{option_map}
 use Rattle.std.specs.Ordering.{eq_by_cmp}
@@ -8,28 +8,22 @@ use Rattle.std.specs.Cmp.{nat_eq_equiv}
 use Rattle.std.specs.BTreeMap.{BTreeMap, get}
 use Rattle.std.proofs.lemmas.List.{length-map, map-append, take_more}
 use Rattle.std.proofs.lemmas.Option.{get_or_from_slice_get, slice_get-map, slice_get_within}
-use Rattle.plain_types.specs.declared.fault.Fault.{Fault}
-use Rattle.file_tables.specs.Metadata.{MetadataPart, row_count}
+use Rattle.file_tables.specs.Metadata.{MetadataPart}
 use Rattle.file_tables.specs.File.{FilePart}
 use Rattle.machine.specs.Texts.{same_text}
 use Rattle.alike.proofs.Lists.{position_map}
 use Rattle.assemblies.specs.Rows.{Assembly}
 use Rattle.assemblies.specs.Binding.{numbered}
-use Rattle.world_rows.specs.Tokens.{assemblies}
 use Rattle.world_rows.specs.World.{rows_alone, size_of, assembly_with, assemblies_of}
 use Rattle.first_places.specs.Places.{FindsFirst}
 use Rattle.type_names.specs.Names.{assembly_name}
 use Rattle.type_names.proofs.KeyLaws.{text_equal}
 use Rattle.class_rules.specs.Rules.{holds_some}
-use Rattle.verdict_rules.specs.Order.{first_fault, test}
-use Rattle.verdict_rules.specs.World.{world_of}
-use Rattle.verdict_rules.specs.Types.{is_named_before, assembly_tests}
-use Rattle.profile_subject.specs.Faults.{row_fault}
+use Rattle.verdict_rules.specs.Types.{is_named_before}
 use Rattle.type_tests.specs.Columns.{precedes}
 use Rattle.type_tests.specs.Names.{name_in, name_order}
 use Rattle.type_tests.specs.declared.names.AssemblyName.{AssemblyName}
 use Rattle.type_tests.proofs.ListLaws.{any_before}
-use Rattle.type_tests.proofs.TypeLaws.{no_row, of_row, tables_are}
 
 pub names_found : (files : List FilePart) (keys : List AssemblyName) (places : BTreeMap AssemblyName ℕ) → map (λ (k : AssemblyName). k.name.now) keys ≡ map name_in files → FindsFirst name_order keys places → (wanted : AssemblyName) → get name_order places wanted ≡ position (λ x. same_text wanted.name.now (name_in x)) files
 names_found files keys places e finds wanted =
@@ -108,24 +102,3 @@ module _ (files : List FilePart) (file : ℕ) where
       named_before m there
       ∙ ap (λ (s : List ℕ). precedes file (position (λ x. same_text s (name_in x)) files)) (sym e)
       ∙ ap (precedes file) (sym found)
-
-  an_assembly : (m : MetadataPart) (n : ℕ) → n < row_count m assemblies → row_fault file m (record { table = assemblies; tests = assembly_tests (world_of files) file }) n ≡ first_fault file assemblies (suc n) (test 22 (not (is_named_before ps file)) ∷ [])
-  an_assembly m n within = of_row file m (record { table = assemblies; tests = assembly_tests (world_of files) file }) n within
-
--- what a row of assemblies is told
-module _ (files : List FilePart) (file : ℕ) (m : MetadataPart) (there : option_map (λ (p : FilePart). p.metadata) (slice_get files file) ≡ Some m) (x : FilePart) (at : slice_get files file ≡ Some x) (n : ℕ) where
-  told_by : MetadataPart → Option Fault
-  told_by y = row_fault file y (record { table = assemblies; tests = assembly_tests (world_of files) file }) n
-
-  pub assembly_past : row_count m assemblies ≤ n → None ≡ row_fault file x.metadata (record { table = assemblies; tests = assembly_tests (world_of files) file }) n
-  unfolding told_by
-  assembly_past past = sym (no_row file m (record { table = assemblies; tests = assembly_tests (world_of files) file }) n past) ∙ ap told_by (tables_are files file m x there at)
-
-  pub assembly_told : n < row_count m assemblies → (before : Bool) (result : Option Fault) → before ≡ is_named_before (assemblies_of files) file → result ≡ first_fault file assemblies (n + 1) (test 22 (not before) ∷ []) → result ≡ row_fault file x.metadata (record { table = assemblies; tests = assembly_tests (world_of files) file }) n
-  unfolding told_by
-  assembly_told within before result same e =
-      e
-      ∙ ap (λ b. first_fault file assemblies (n + 1) (test 22 (not b) ∷ [])) same
-      ∙ ap (λ r. first_fault file assemblies r (test 22 (not (is_named_before (assemblies_of files) file)) ∷ [])) (add-one n)
-      ∙ sym (an_assembly files file m n within)
-      ∙ ap told_by (tables_are files file m x there at)

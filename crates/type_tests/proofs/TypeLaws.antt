@@ -1,5 +1,5 @@
 -- What the tests of a type's row say, by the table of classes and the names of the file's types.
-use Rattle.std.proofs.Common.{◌≡◌, ◌∙◌, ℕ, suc, ◌+◌, ◌<◌, ◌≤◌, Bool, true, false, List, [], ◌∷◌, get_or, map, take, Option, Some, None, refl, sym, ap, subst, arith, add-one}
+use Rattle.std.proofs.Common.{◌≡◌, ◌∙◌, ℕ, suc, ◌+◌, ◌<◌, ◌≤◌, Bool, List, [], ◌∷◌, get_or, map, take, Option, Some, None, refl, sym, ap, arith, add-one}
 use Rattle.std.specs.Prelude.{slice_get, slice_index, unwrap_or, is_some}
 use Rattle.std.specs.List.{list_any, position}
 use Rattle.std.specs.Option.{option_map}
@@ -20,7 +20,7 @@ use Rattle.world_rows.specs.Rows.{row_with, type_row}
 use Rattle.world_rows.specs.Kinds.{kind_of}
 use Rattle.world_rows.specs.World.{type_count, size_of, rows_alone, assembly_with, assemblies_of, ecma_sources}
 use Rattle.world_rows.proofs.Alone.{resolve_alone}
-use Rattle.type_names.specs.Names.{TypeName, same_name, type_name, type_name_at, FindsTypes}
+use Rattle.type_names.specs.Names.{TypeName, same_name, type_name, type_name_at}
 use Rattle.type_names.specs.Resolved.{class_coded}
 use Rattle.class_table.specs.declared.rows.ClassRow.{ClassRow}
 use Rattle.class_table.specs.declared.rows.FileRows.{FileRows}
@@ -33,14 +33,12 @@ use Rattle.class_queries.specs.Found.{found_row}
 use Rattle.class_reading.specs.Types.{row_outline}
 use Rattle.class_reading.proofs.FileLaws.{key_at}
 use Rattle.class_reading.proofs.TypeLaws.{outlines_are}
-use Rattle.member_reading.specs.Columns.{FindsRows}
 use Rattle.class_rules.specs.Rules.{holds_some, may_be_implemented}
 use Rattle.verdict_rules.specs.Order.{TableRules, first_fault, test}
 use Rattle.verdict_rules.specs.World.{World, world_of}
 use Rattle.verdict_rules.specs.Types.{has_layout, has_name, is_type_before, of_class, class_tests, type_tests, interface_tests}
 use Rattle.profile_subject.specs.Faults.{row_fault}
-use Rattle.type_tests.specs.declared.columns.TypeColumns.{TypeColumns}
-use Rattle.type_tests.specs.Columns.{IsColumns, AreColumns, first_of_name, name_seen, precedes}
+use Rattle.type_tests.specs.Columns.{first_of_name, name_seen, precedes}
 use Rattle.type_tests.specs.Judged.{world_seen}
 use Rattle.type_tests.proofs.ListLaws.{any_before}
 
@@ -203,36 +201,7 @@ module _ (files : List FilePart) (file : ℕ) (m : MetadataPart) (there : option
           ap name_seen (sym here)
           ∙ ap name_of (key_at outline_seen (row_outline files file m) f.classes.items (rows_of m type_defs) n r [] ((table.rows file f at).classes ∙ outlines_are files file m there) within)
 
--- ---- what a file's types are looked up by
-
-pub columns_made : (files : List FilePart) (file : ℕ) (m : MetadataPart) (c : TypeColumns) → option_map (λ (p : FilePart). p.metadata) (slice_get files file) ≡ Some m → FindsTypes m c.names → FindsRows m class_layouts 2 c.layouts → AreColumns files file c
-columns_made files file m c there names layouts x at =
-    let same = tables_are files file m x there at in
-    record {
-      names = subst (λ (y : MetadataPart). FindsTypes y c.names) same names;
-      layouts = subst (λ (y : MetadataPart). FindsRows y class_layouts 2 c.layouts) same layouts;
-    }
-
-pub columns_there : (files : List FilePart) (file : ℕ) (m : MetadataPart) (c : TypeColumns) → option_map (λ (p : FilePart). p.metadata) (slice_get files file) ≡ Some m → AreColumns files file c → IsColumns m c
-columns_there files file m c there are = go (slice_get files file) refl there
-  where
-    go : (o : Option FilePart) → slice_get files file ≡ o → option_map (λ (p : FilePart). p.metadata) o ≡ Some m → IsColumns m c
-    go None at e = cc e
-    go (Some x) at e = let same : x.metadata ≡ m = cc e in subst (λ (y : MetadataPart). IsColumns y c) same (are x at)
-
 -- ---- what a row of types is told
-
-pub superclass_kept : (file n : ℕ) (a b w : Bool) (result : Option Fault) → result ≡ first_fault file type_defs (n + 1) (test 26 w ∷ []) → w ≡ b → a ≡ true → result ≡ first_fault file type_defs (suc n) (test 24 a ∷ test 26 b ∷ [])
-superclass_kept file n a b w result e same kept =
-    e
-    ∙ ap (λ x. first_fault file type_defs (n + 1) (test 26 x ∷ [])) same
-    ∙ ap (λ r. first_fault file type_defs r (test 26 b ∷ [])) (add-one n)
-    ∙ sym (ap (λ x. first_fault file type_defs (suc n) (test 24 x ∷ test 26 b ∷ [])) kept)
-
-pub superclass_broken : (file n : ℕ) (a b : Bool) → a ≡ false → first_fault file type_defs (n + 1) (test 24 false ∷ []) ≡ first_fault file type_defs (suc n) (test 24 a ∷ test 26 b ∷ [])
-superclass_broken file n a b broken =
-    ap (λ r. first_fault file type_defs r (test 24 false ∷ [])) (add-one n)
-    ∙ sym (ap (λ x. first_fault file type_defs (suc n) (test 24 x ∷ test 26 b ∷ [])) broken)
 
 module _ (files : List FilePart) (t : ClassTable) (table : IsTable files t) (file : ℕ) (m : MetadataPart) (there : option_map (λ (p : FilePart). p.metadata) (slice_get files file) ≡ Some m) (x : FilePart) (at : slice_get files file ≡ Some x) (n : ℕ) where
   same : m ≡ x.metadata
@@ -240,10 +209,6 @@ module _ (files : List FilePart) (t : ClassTable) (table : IsTable files t) (fil
 
   told_by : MetadataPart → Option Fault
   told_by y = row_fault file y (record { table = type_defs; tests = type_tests (world_of files) file y }) n
-
-  pub type_past : row_count m type_defs ≤ n → None ≡ row_fault file x.metadata (record { table = type_defs; tests = type_tests (world_of files) file x.metadata }) n
-  unfolding told_by
-  type_past past = sym (no_row file m (record { table = type_defs; tests = type_tests (world_of files) file m }) n past) ∙ ap told_by same
 
   pub type_nowhere : n < row_count m type_defs → found_row t (id_at file n) ≡ None → None ≡ row_fault file x.metadata (record { table = type_defs; tests = type_tests (world_of files) file x.metadata }) n
   unfolding told_by
@@ -257,10 +222,6 @@ module _ (files : List FilePart) (t : ClassTable) (table : IsTable files t) (fil
 
   told_of_interface : MetadataPart → Option Fault
   told_of_interface y = row_fault file y (record { table = interface_impls; tests = interface_tests (world_of files) file y }) n
-
-  pub interface_past : row_count m interface_impls ≤ n → None ≡ row_fault file x.metadata (record { table = interface_impls; tests = interface_tests (world_of files) file x.metadata }) n
-  unfolding told_of_interface
-  interface_past past = sym (no_row file m (record { table = interface_impls; tests = interface_tests (world_of files) file m }) n past) ∙ ap told_of_interface same
 
   pub interface_told : n < row_count m interface_impls → (index : ℕ) (well : Bool) (result : Option Fault) → slice_index (row_of m interface_impls (suc n)) 1 ≡ index → well ≡ holds_some (class_coded files file TypeDefOrRef index) (may_be_implemented (type_count (rows_alone files)) (classes_seen t)) → result ≡ first_fault file interface_impls (n + 1) (test 25 well ∷ []) → result ≡ row_fault file x.metadata (record { table = interface_impls; tests = interface_tests (world_of files) file x.metadata }) n
   unfolding told_of_interface
