@@ -1,0 +1,5 @@
+pub mod ListLaws
+pub mod CountLaws
+pub mod TypeLaws
+pub mod NameLaws
+pub mod EntryLaws

@@ -1,0 +1,4 @@
+pub mod Columns
+pub mod Judged
+pub mod Names
+pub mod Entries
