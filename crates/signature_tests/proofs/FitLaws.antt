@@ -2,7 +2,6 @@
 use Rattle.std.proofs.Common.{◌≡◌, ℕ, ◌<◌, Bool, true, false, List, length, Option, Some, None, refl, sym, ap, ◌∙◌}
 use Rattle.std.specs.Prelude.{◌||◌, ◌&&◌, slice_get}
 use Rattle.file_tables.specs.File.{FilePart}
-use Rattle.cil_sig.specs.declared.places.Position.{Position}
 use Rattle.cil_sig.specs.declared.places.Position.TheVariants as positions
 use Rattle.cil_sig.specs.declared.sig.SigType.{SigType}
 use Rattle.machine.specs.Throw.{on_some}
@@ -18,7 +17,7 @@ use Rattle.world_rows.specs.World.{assemblies_of}
 use Rattle.world_rows.specs.Signatures.{raw_type, is_void}
 use Rattle.member_reading.specs.Meant.{scopes, type_meant}
 use Rattle.verdict_rules.specs.World.{world_of, classes_of}
-use Rattle.verdict_rules.specs.Members.{spelling, type_fits, method_place_fits}
+use Rattle.verdict_rules.specs.Members.{spelling, type_fits}
 use Rattle.signature_tests.specs.Fits.{admits_type, fits_at}
 
 same_or : (a : Bool) → (a || false) ≡ a

@@ -1,6 +1,6 @@
 -- What spells a signature is short.
-use Rattle.std.proofs.Common.{◌≡◌, ℕ, ◌+◌, ◌*◌, ◌^◌, ◌<◌, ◌≤◌, Bool, true, false, List, [], ◌∷◌, ◌++◌, length, replicate, ap, arith, length-append}
-use Rattle.std.specs.Prelude.{MatchBool, ◌⊎◌}
+use Rattle.std.proofs.Common.{◌≡◌, ℕ, ◌*◌, ◌^◌, ◌<◌, ◌≤◌, Bool, true, false, List, [], ◌∷◌, ◌++◌, length, replicate, ap, arith, length-append}
+use Rattle.std.specs.Prelude.{MatchBool}
 use Rattle.std.proofs.Common.{inl, inr}
 use Rattle.std.proofs.lemmas.List.{length-replicate}
 use Rattle.plain_types.specs.declared.elem.Elem.{Elem}
@@ -9,7 +9,7 @@ use Rattle.cil_sig.specs.declared.sig.SigType.{SigType}
 use Rattle.cil_sig.specs.declared.sig.MethodSig.{MethodSig}
 use Rattle.cil_sig.specs.declared.elements.TheConstants.{ARRAY, VOID}
 use Rattle.cil_sig.specs.Elements.{names_type}
-use Rattle.cil_sig.specs.Spelling.{IsToken, IsName, IsElement, IsType, IsPointer, IsParameter, IsVoid, IsResult, AreSpelled, IsField, IsSpec, AreLocals, IsMethod}
+use Rattle.cil_sig.specs.Spelling.{IsToken, IsName, IsElement, IsType, IsPointer, IsParameter, IsResult, AreSpelled, AreLocals, IsMethod}
 
 number_short : (bytes : List ℕ) (n : ℕ) → IsCompressed bytes n → length bytes ≤ 4
 number_short [] n is = absurd is
@@ -62,18 +62,6 @@ spelled_short Is each bytes (t ∷ ts) (first, rest, parts, one, others) =
     let whole : length bytes ≡ length (first ++ rest) = ap length parts in
     omega (arith, whole, length-append first rest)
 
-pub field_short : (blob : List ℕ) (t : SigType) → IsField blob t → length blob < 2 ^ 32
-field_short blob t (of, parts, is) =
-    let short : length of ≤ 260 = type_short of t is in
-    let whole : length blob ≡ length (6 ∷ of) = ap length parts in
-    omega arith
-
-pub spec_short : (blob : List ℕ) (t : SigType) → IsSpec blob t → length blob < 2 ^ 32
-spec_short blob t is = let short : length blob ≤ 260 = type_short blob t is.0 in omega arith
-
-pub locals_few : (blob : List ℕ) (ts : List SigType) → AreLocals blob ts → length ts < 2 ^ 32
-locals_few blob ts is = let few : length ts ≤ 65535 = is.counted.1 in omega arith
-
 pub locals_short : (blob : List ℕ) (ts : List SigType) → AreLocals blob ts → length blob < 2 ^ 32
 locals_short blob ts is =
     let few : length ts ≤ 65535 = is.counted.1 in
@@ -81,9 +69,6 @@ locals_short blob ts is =
     let types : length is.types ≤ 261 * length ts = spelled_short IsType one_short is.types ts is.spelled in
     let whole : length blob ≡ length (7 ∷ (is.count ++ is.types)) = ap length is.parts in
     omega (arith, whole, length-append is.count is.types)
-
-pub method_few : (blob : List ℕ) (s : MethodSig) → IsMethod blob s → length s.params < 2 ^ 32
-method_few blob s is = let few : length s.params ≤ 65535 = is.counted.1 in omega arith
 
 pub method_short : (blob : List ℕ) (s : MethodSig) → IsMethod blob s → length blob < 2 ^ 32
 method_short blob s is =

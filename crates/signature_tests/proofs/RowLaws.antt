@@ -1,18 +1,16 @@
 -- Rows, the fields of a table, and what is told of a row.
-use Rattle.std.proofs.Common.{◌≡◌, ℕ, suc, ◌+◌, ◌<◌, ◌≤◌, Bool, false, List, [], ◌∷◌, length, get_or, Option, Some, None, Result, Ok, Err, refl, sym, ap, ◌∙◌, add-one, arith}
-use Rattle.std.specs.Prelude.{IfOk, slice_get, slice_index, unwrap_or}
+use Rattle.std.proofs.Common.{◌≡◌, ℕ, ◌+◌, ◌<◌, Bool, false, List, [], length, Option, Some, None, Result, Ok, Err, refl, sym, ap, ◌∙◌, arith}
+use Rattle.std.specs.Prelude.{IfOk, slice_get, unwrap_or}
 use Rattle.std.specs.Option.{option_map}
-use Rattle.std.proofs.lemmas.Option.{slice_get-get_or}
 use Rattle.file_tables.specs.declared.schema.Coded.{Coded}
-use Rattle.file_tables.specs.Metadata.{MetadataPart, rows_of, row_count, row_of, column_of}
+use Rattle.file_tables.specs.Metadata.{MetadataPart}
 use Rattle.file_tables.specs.File.{FilePart}
-use Rattle.machine.specs.Data.{Id}
 use Rattle.machine.specs.Throw.{on_some}
 use Rattle.classes.specs.Classes.{OwnField}
 use Rattle.assemblies.specs.Rows.{Assembly}
 use Rattle.assemblies.specs.Binding.{id_at, numbered, own_field, resolve}
 use Rattle.assemblies.proofs.Numbered.{get_numbered}
-use Rattle.assemblies.proofs.Back.{get_past, get_there}
+use Rattle.assemblies.proofs.Back.{get_there}
 use Rattle.world_rows.specs.Tokens.{bytes_at, coded_type}
 use Rattle.world_rows.specs.World.{rows_alone, assemblies_of, size_of}
 use Rattle.world_rows.proofs.Alone.{resolve_alone}
@@ -27,28 +25,11 @@ use Rattle.class_table.specs.Seen as seen
 use Rattle.class_table.specs.Whole.{fields_at, IsTable}
 use Rattle.verdict_rules.specs.World.{world_of, named_class, field_row}
 use Rattle.verdict_rules.specs.Members.{own_field_fits}
-use Rattle.profile_subject.specs.Faults.{row_at}
 
 -- ---- rows
 
 module _ (files : List FilePart) (file : ℕ) (m : MetadataPart) (there : option_map (λ (x : FilePart). x.metadata) (slice_get files file) ≡ Some m) where
-  -- rows by the tables of the file
-  row_is : (table n : ℕ) → row_at files file table n ≡ slice_get (rows_of m table) n
-  row_is table n = by (slice_get files file) there
-    where
-      by : (o : Option FilePart) → option_map (λ (x : FilePart). x.metadata) o ≡ Some m → on_some o (λ x. slice_get (rows_of x.metadata table) n) ≡ slice_get (rows_of m table) n
-      by None e = absurd (cc e)
-      by (Some x) e = let same : x.metadata ≡ m = cc e in ap (λ (k : MetadataPart). slice_get (rows_of k table) n) same
-
-  pub row_past : {R : Type 0} (make : (ℕ → ℕ) → R) (table n : ℕ) → row_count m table ≤ n → None ≡ option_map (λ row. make (slice_index row)) (row_at files file table n)
-  row_past make table n past = sym (ap (option_map (λ row. make (slice_index row))) (row_is table n ∙ get_past (rows_of m table) n past))
-
-  pub row_there : {R : Type 0} (make : (ℕ → ℕ) → R) (table n : ℕ) → n < row_count m table → Some (make (column_of m table (n + 1))) ≡ option_map (λ row. make (slice_index row)) (row_at files file table n)
-  row_there make table n within =
-      ap (λ k. Some (make (column_of m table k))) (add-one n)
-      ∙ sym (ap (option_map (λ row. make (slice_index row))) (row_is table n ∙ slice_get-get_or (rows_of m table) n [] within))
-
-  pub same_metadata : (x : FilePart) → slice_get files file ≡ Some x → m ≡ x.metadata
+  same_metadata : (x : FilePart) → slice_get files file ≡ Some x → m ≡ x.metadata
   same_metadata x e =
       let both : Path (Option MetadataPart) (Some m) (Some x.metadata) = sym there ∙ ap (option_map (λ (y : FilePart). y.metadata)) e in
       cc both

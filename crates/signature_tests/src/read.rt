@@ -88,7 +88,14 @@ fn method_types_wrong(
     requires short { length blob.now < 2 ^ 32 }
     ensures { result ≡ first_wrong blob.now (fits_at subject.now.world.now file (admits handles)) (in_method of.now) }
 {
-    match type_wrong(subject, file, handles, Position::Returned, &of.returns, blob) {
+    match type_wrong(
+        subject,
+        file,
+        handles,
+        Position::Returned,
+        &of.returns,
+        blob,
+    ) {
         Some(offset) => Some(offset),
         None => list_wrong(
             subject,

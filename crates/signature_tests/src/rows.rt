@@ -47,7 +47,11 @@ fn find_row<R: TableRow>(subject: &Subject<'_, '_>, file: u16, n: u32) -> Option
 }
 
 /// The field of a row of the table.
-fn find_field<'t, 'a>(table: &'t ClassTable<'a>, file: u16, n: u32) -> Option<&'t class_table::FieldRow<'a>>
+fn find_field<'t, 'a>(
+    table: &'t ClassTable<'a>,
+    file: u16,
+    n: u32,
+) -> Option<&'t class_table::FieldRow<'a>>
     ensures { option_map (seen.field_seen file n) (option_copied result) ≡ seen.field_row table.now (id_at file n) }
 {
     table.files.get(usize::from(file))?.fields.get(n as usize)
@@ -91,7 +95,11 @@ pub fn field_wrong(subject: &Subject<'_, '_>, file: u16, n: u32) -> Option<u32>
 fn handles_of(is_library: bool) -> Handles
     ensures { admits result ≡ is_library }
 {
-    if is_library { Handles::Admitted } else { Handles::Refused }
+    if is_library {
+        Handles::Admitted
+    } else {
+        Handles::Refused
+    }
 }
 
 /// Where the signature of a method is wrong (ECMA-335 II.23.2.1): the offset at which it has no form, else that of the first type that may
@@ -119,7 +127,11 @@ fn is_of_library(subject: &Subject<'_, '_>, file: u16, class: u32) -> bool
     requires { file < length subject.now.world.now }
     ensures { result ≡ holds_some (class_coded subject.now.world.now file MemberRefParent class) (λ (c : Id). c.file == 0) }
 {
-    match subject.world.names().find_class(file, Coded::MemberRefParent, class) {
+    match subject
+        .world
+        .names()
+        .find_class(file, Coded::MemberRefParent, class)
+    {
         Some(class) => class.file == 0,
         None => false,
     }
@@ -174,7 +186,12 @@ pub fn locals_wrong(
     let Some(row) = find_row::<StandAloneSigRow>(subject, file, n) else {
         return Ok(None);
     };
-    locals_blob_wrong(alloc, subject, file, bytes(subject.world.tables(file), row.signature))
+    locals_blob_wrong(
+        alloc,
+        subject,
+        file,
+        bytes(subject.world.tables(file), row.signature),
+    )
 }
 
 /// Where the signature of a TypeSpec is wrong (ECMA-335 II.23.2.14): the offset at which it has no form, else that of its type where that may
@@ -185,5 +202,9 @@ pub fn spec_wrong(subject: &Subject<'_, '_>, file: u16, n: u32) -> Option<u32>
     ensures { TellsRow subject.now.world.now file type_specs n (λ m row. members.spec_wrong (world.world_of subject.now.world.now) file m (bytes_at m (slice_index row 0))) result }
 {
     let row: TypeSpecRow = find_row(subject, file, n)?;
-    spec_blob_wrong(subject, file, bytes(subject.world.tables(file), row.signature))
+    spec_blob_wrong(
+        subject,
+        file,
+        bytes(subject.world.tables(file), row.signature),
+    )
 }

@@ -1,17 +1,12 @@
-use Rattle.std.proofs.Common.{◌≡◌, ℕ, Bool, true, false, ap, sym, ◌∙◌}
-use Rattle.std.specs.Prelude.{◌==◌, slice_index}
-use Rattle.machine.specs.Data.{Id}
-use Rattle.file_tables.specs.declared.schema.Coded.TheVariants.{MemberRefParent}
+use Rattle.std.proofs.Common.{◌≡◌, false, ap, ◌∙◌}
+use Rattle.std.specs.Prelude.{slice_index}
 use Rattle.cil_rows.specs.declared.rows.StandAloneSigRow.{StandAloneSigRow}
-use Rattle.cil_sig.specs.Reading.{whole_field, whole_method, whole_locals, whole_spec}
-use Rattle.class_rules.specs.Rules.{holds_some}
-use Rattle.type_names.specs.Resolved.{class_coded}
-use Rattle.world_rows.specs.Tokens.{begins_field, bytes_at}
-use Rattle.verdict_rules.specs.World.{world_of}
-use Rattle.verdict_rules.specs.Members.{wrong_at, in_field, in_spec, in_locals, in_method, method_wrong, is_of_library}
-use Rattle.signature_tests.specs.Fits.{admits, fits_at}
-use Rattle.signature_tests.proofs.RowLaws.{blob_is, read_is, if_ok, class_is}
-use Rattle.signature_tests.proofs.ToldLaws.{method_told, spec_told, locals_told, field_reference, method_reference}
+use Rattle.cil_sig.specs.Reading.{whole_locals}
+use Rattle.world_rows.specs.Tokens.{bytes_at}
+use Rattle.verdict_rules.specs.Members.{wrong_at, in_locals}
+use Rattle.signature_tests.specs.Fits.{fits_at}
+use Rattle.signature_tests.proofs.RowLaws.{blob_is, read_is, if_ok}
+use Rattle.signature_tests.proofs.ToldLaws.{locals_told}
 use Rattle.signature_tests.proofs.rows.locals_wrong.Goals as goal
 
 pub returns : goal.returns
