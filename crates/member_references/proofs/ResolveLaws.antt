@@ -1,5 +1,5 @@
 -- What tokens name, by the table and the references of a world.
-use Rattle.std.proofs.Common.{◌≡◌, ℕ, zero, suc, ◌+◌, ◌<◌, ◌≤◌, Bool, List, length, map, Option, Some, None, refl, sym, ap, ◌∙◌, arith, add-one}
+use Rattle.std.proofs.Common.{◌≡◌, ℕ, zero, suc, ◌<◌, ◌≤◌, Bool, List, length, map, Option, Some, None, refl, sym, ap, ◌∙◌, arith, add-one}
 use Rattle.std.specs.Prelude.{nat_lt, slice_get, if◌then◌else◌}
 use Rattle.std.specs.Option.{option_map}
 use Rattle.std.specs.Global.{Vec}
@@ -22,7 +22,7 @@ use Rattle.class_table.proofs.TableLaws.{table_law}
 use Rattle.member_references.specs.declared.reference.Reference.{Reference}
 use Rattle.member_references.specs.declared.reference.References.{References}
 use Rattle.member_references.specs.Resolved.{field_of, method_of, field_id, method_id, field_checked, method_checked}
-use Rattle.member_references.specs.Meant.{field_in, method_in, AreMeant, reference_at, AreReferences}
+use Rattle.member_references.specs.Meant.{field_in, method_in, reference_at, AreReferences}
 use Rattle.member_references.proofs.TokenLaws.{field_own, field_row_0, field_other, method_own, method_row_0, method_other}
 use Rattle.member_references.proofs.RowLaws.{file_there}
 

@@ -1,11 +1,10 @@
 -- Rows and files one after the other.
-use Rattle.std.proofs.Common.{◌≡◌, ℕ, ◌+◌, ◌<◌, ◌≤◌, ◌⊎◌, inl, inr, true, false, not, List, [], ◌∷◌, ◌++◌, length, map, Option, Some, None, refl, sym, ap, ◌∙◌, subst, arith}
+use Rattle.std.proofs.Common.{◌≡◌, ℕ, ◌+◌, ◌<◌, ◌≤◌, ◌⊎◌, inl, inr, true, false, not, List, [], ◌∷◌, ◌++◌, length, Option, Some, None, refl, sym, ap, ◌∙◌, subst, arith}
 use Rattle.std.specs.Prelude.{slice_get}
 use Rattle.std.specs.Option.{option_map}
 use Rattle.std.proofs.lemmas.Option.{slice_get-get_or}
 use Rattle.file_tables.specs.Metadata.{MetadataPart, rows_of, row_of, row_count}
 use Rattle.file_tables.specs.File.{FilePart}
-use Rattle.machine.specs.Data.{Id}
 use Rattle.machine.specs.Throw.{on_some}
 use Rattle.world_rows.specs.Tokens.{member_refs, is_field_ref}
 use Rattle.world_rows.specs.Rows.{field_ref, method_ref}

@@ -1,5 +1,5 @@
 -- What the tokens of rows of members name.
-use Rattle.std.proofs.Common.{◌≡◌, ℕ, zero, suc, ◌+◌, ◌≤◌, Bool, true, false, List, [], map, length, take, Option, Some, None, refl, sym, ap, ◌∙◌, arith, add-one}
+use Rattle.std.proofs.Common.{◌≡◌, ℕ, ◌+◌, ◌≤◌, Bool, true, false, List, [], length, take, Some, None, refl, ap, ◌∙◌, arith, add-one}
 use Rattle.std.specs.Prelude.{◌==◌, slice_get, slice_index_or, count_by, if◌then◌else◌}
 use Rattle.std.specs.List.{filter, position}
 use Rattle.std.specs.Option.{option_map}
@@ -9,8 +9,8 @@ use Rattle.file_tables.specs.Metadata.{MetadataPart, rows_of, row_count}
 use Rattle.file_tables.specs.File.{FilePart}
 use Rattle.machine.specs.Data.{Id}
 use Rattle.machine.specs.Throw.{on_some}
-use Rattle.assemblies.specs.Rows.{MemberToken, Own, Reference, TypeRow, FieldRow, MethodRow, FieldRefRow, MethodRefRow, Assembly}
-use Rattle.assemblies.specs.Binding.{id_at, numbered, holds, resolve_field, resolve_method, field_owner, method_owner}
+use Rattle.assemblies.specs.Rows.{MemberToken, Own, Reference, TypeRow, FieldRow, MethodRow, Assembly}
+use Rattle.assemblies.specs.Binding.{id_at, numbered, holds, resolve_field, resolve_method}
 use Rattle.assemblies.proofs.Back.{get_past}
 use Rattle.assemblies.proofs.Numbered.{get_numbered}
 use Rattle.world_rows.specs.Tokens.{fields, methods, member_refs, from_zero, is_field_ref, is_method_ref, reference_of, no_field, no_method, field_token, method_token}

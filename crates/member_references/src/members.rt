@@ -45,9 +45,13 @@ fn find_field<'a>(
 {
     let _few = tables.rows(MEMBER_REF);
     let row: MemberRefRow = read_row(tables, n + 1);
-    let class = members.names.find_class(file, Coded::MemberRefParent, row.class)?;
+    let class = members
+        .names
+        .find_class(file, Coded::MemberRefParent, row.class)?;
     let of = read_field_type(members.names, file, bytes(tables, row.signature))?;
-    members.fields.find_field(alloc, class, text(tables, row.name), of)
+    members
+        .fields
+        .find_field(alloc, class, text(tables, row.name), of)
 }
 
 /// The method that a row of a file's MemberRef table means, from 0, if it is one of a method (ECMA-335 II.22.25).
@@ -66,14 +70,21 @@ fn find_method<'a>(
 {
     let _few = tables.rows(MEMBER_REF);
     let row: MemberRefRow = read_row(tables, n + 1);
-    let Some(class) = members.names.find_class(file, Coded::MemberRefParent, row.class) else {
+    let Some(class) = members
+        .names
+        .find_class(file, Coded::MemberRefParent, row.class)
+    else {
         return Ok(None);
     };
     let blob = bytes(tables, row.signature);
     let Some(signature) = read_method_signature(alloc, members.names, file, blob)? else {
         return Ok(None);
     };
-    Ok(members.methods.find_method(class, text(tables, row.name), signature))
+    Ok(
+        members
+            .methods
+            .find_method(class, text(tables, row.name), signature),
+    )
 }
 
 /// The signature is a field's.

@@ -1,9 +1,8 @@
-use Rattle.std.proofs.Common.{◌≡◌, ◌≤◌, ◌+◌, ℕ, length, sym, ap, ◌∙◌, subst, arith}
-use Rattle.std.specs.Prelude.{Some, slice_get}
+use Rattle.std.proofs.Common.{◌≤◌, ◌+◌, length, sym, ap, ◌∙◌, subst, arith}
+use Rattle.std.specs.Prelude.{slice_get}
 use Rattle.file_tables.specs.Metadata.{row_count}
 use Rattle.world_rows.specs.Tokens.{member_refs}
 use Rattle.type_names.proofs.Resolving.{longer}
-use Rattle.member_references.specs.declared.reference.Reference.{Reference}
 use Rattle.member_references.specs.Meant.{IsMeant}
 use Rattle.member_references.proofs.RowLaws.{each_more, all_meant}
 use Rattle.member_references.proofs.read.read_file.Goals as goal

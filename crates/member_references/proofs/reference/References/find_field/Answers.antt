@@ -1,10 +1,8 @@
 use Rattle.std.proofs.Common.{sym, ap, ◌∙◌}
 use Rattle.std.specs.Prelude.{Some, None}
 use Rattle.std.specs.Option.{option_map}
-use Rattle.assemblies.specs.Binding.{id_at}
 use Rattle.world_rows.specs.Tokens.{from_zero}
 use Rattle.member_keys.specs.Seen.{class_seen}
-use Rattle.class_table.specs.Seen.{field_owner}
 use Rattle.member_references.proofs.ResolveLaws.{own_field_named, referenced_field, other_field}
 use Rattle.member_references.proofs.reference.References.find_field.Goals as goal
 

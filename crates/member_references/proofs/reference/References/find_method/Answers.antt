@@ -1,10 +1,8 @@
 use Rattle.std.proofs.Common.{sym, ap, ◌∙◌}
 use Rattle.std.specs.Prelude.{Some, None}
 use Rattle.std.specs.Option.{option_map}
-use Rattle.assemblies.specs.Binding.{id_at}
 use Rattle.world_rows.specs.Tokens.{from_zero}
 use Rattle.member_keys.specs.Seen.{class_seen}
-use Rattle.class_table.specs.Seen.{method_owner}
 use Rattle.member_references.proofs.ResolveLaws.{own_method_named, referenced_method, other_method}
 use Rattle.member_references.proofs.reference.References.find_method.Goals as goal
 
