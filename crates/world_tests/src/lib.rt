@@ -2,4 +2,6 @@
 #![tactic(auto)]
 
 #[cfg(test)]
+mod members;
+#[cfg(test)]
 mod names;

@@ -8,14 +8,14 @@ use plain_types::fault::{Fault, Place, WHOLE_FILE};
 use std::alloc::Global;
 use std::test::Fail;
 
-fn add(b: &mut Build, alloc: Global, row: &RefRow<'_>) -> Result<u32, BuildRefusal> {
+pub fn add(b: &mut Build, alloc: Global, row: &RefRow<'_>) -> Result<u32, BuildRefusal> {
     if !b.has_room(row.table()) {
         return Err(BuildRefusal::Full);
     }
     Ok(b.add_ref(alloc, row)?)
 }
 
-fn add_assembly(
+pub fn add_assembly(
     b: &mut Build,
     alloc: Global,
     name: &str,

@@ -2,4 +2,4 @@ use Rattle.cil_world.proofs.OpenedLaws.{all_stand}
 use Rattle.cil_world.proofs.world.World.new.Goals as goal
 
 pub invariant_of-result : goal.invariant_of-result
-invariant_of-result c = record { table = c.in-Ok-read_table.ensures; stand = all_stand _ _ c.in-Ok.ensures }
+invariant_of-result c = record { table = c.in-Ok-read_table.ensures; stand = all_stand _ _ c.in-Ok.ensures; references = c.in-Ok-read_references.ensures }
