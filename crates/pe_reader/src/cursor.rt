@@ -1,6 +1,6 @@
 //! Many bytes of one file, one after the other.
 
-ghost use Rattle.std.specs.Prelude.{◌≡◌, ◌+◌, ◌*◌, ◌<◌, ◌≤◌, length};
+ghost use Rattle.std.specs.Prelude.{◌≡◌, ◌+◌, ◌*◌, ◌^◌, ◌<◌, ◌≤◌, length, IfSome};
 ghost use Rattle.std.specs.Option.{option_copied};
 ghost use Rattle.pe_reader.specs.Seen.{sections_from};
 ghost use Rattle.pe_reader.specs.Spans.{IsSpan};
@@ -73,6 +73,7 @@ impl<'a> SectionCursor<'a> {
     pub fn tail(&mut self, rva: u32) -> Option<&'a [u8]>
         ensures bytes { option_copied result ≡ tail self.old rva }
         ensures same { self.new ≡ self.old }
+        ensures short { IfSome result (λ bytes. length bytes.now < 2 ^ 32) }
     {
         let span = near(self.span, self.file, self.sections, self.count, rva);
         self.span = span;

@@ -1,6 +1,6 @@
 //! Section headers, read in place.
 
-ghost use Rattle.std.specs.Prelude.{◌≡◌, ◌+◌, ◌-◌, ◌*◌, ◌<◌, ◌≤◌, length, IsTrue, IfSome, Some};
+ghost use Rattle.std.specs.Prelude.{◌≡◌, ◌+◌, ◌-◌, ◌*◌, ◌^◌, ◌<◌, ◌≤◌, length, IsTrue, IfSome, Some};
 ghost use Rattle.std.specs.Option.{option_map};
 ghost use Rattle.file_tables.specs.Bytes.{range_of};
 ghost use Rattle.file_tables.specs.Pe.{section_at, holds, section_of, place_in, place_of};
@@ -51,7 +51,8 @@ pub fn rest_of(file: &[u8], section: Section, rva: u32) -> &[u8]
     requires begins { section.address ≤ rva }
     requires within { rva < section.address + section.size }
     requires ends { section.pointer + (rva - section.address) < length file.now }
-    ensures { result.now ≡ range_of file.now (place_in (seen section) rva) (section.size - (rva - section.address)) }
+    ensures bytes { result.now ≡ range_of file.now (place_in (seen section) rva) (section.size - (rva - section.address)) }
+    ensures short { length result.now < 2 ^ 32 }
 {
     let skipped = rva - section.address;
     let at = section.pointer as usize + skipped as usize;

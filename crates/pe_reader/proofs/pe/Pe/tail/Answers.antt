@@ -11,4 +11,4 @@ returns c =
     rw (← c.self.view_is)
     (sym
     (tail_found c.self.inside.file.now c.self.inside.sections c.self.inside.count c.args.rva s c.self.invariant.sections c.self.invariant.count c.in_ok-section.ensures.first
-    ∙ ap Some (sym c.rest_of.ensures)))
+    ∙ ap Some (sym c.rest_of.ensures.bytes)))
