@@ -1,0 +1,5 @@
+pub mod Base
+pub mod Index
+pub mod Types
+pub mod Methods
+pub mod Members
