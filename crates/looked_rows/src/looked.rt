@@ -37,7 +37,7 @@ impl Looked {
     ghost use Rattle.looked_rows.specs.Looked.{Looks};
 
     /// No row of the tables.
-    pub fn none(alloc: Global, tables: &Tables<'_>) -> Result<Looked, NoMemory>
+    pub(crate) fn none(alloc: Global, tables: &Tables<'_>) -> Result<Looked, NoMemory>
         ensures members { IfOk result (λ looked. looked.members.items ≡ replicate (row_count tables.now member_refs) false) }
         ensures specs { IfOk result (λ looked. looked.specs.items ≡ replicate (row_count tables.now type_specs) false) }
     {
@@ -48,7 +48,7 @@ impl Looked {
     }
 
     /// Marks the row that a token names, if it is one of these tables.
-    pub fn mark(&mut self, token: u64)
+    pub(crate) fn mark(&mut self, token: u64)
         ensures { Looks (token ∷ []) self.old self.new }
     {
         mark_row(&mut self.members, MEMBER_REF, token);
