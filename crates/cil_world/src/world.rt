@@ -8,11 +8,13 @@ ghost use Rattle.type_names.specs.Opening.{files_opened, Opens};
 ghost use Rattle.type_names.specs.Resolved.{type_id, type_resolved};
 ghost use Rattle.class_table.specs.Seen.{classes_seen};
 ghost use Rattle.class_table.specs.Whole.{IsTable};
+ghost use Rattle.member_references.specs.Resolved.{field_id, method_id, field_resolved, method_resolved};
 
 use crate::table::read_table;
 use cil_tables::Tables;
 use class_table::ClassTable;
-use ecma_types::id::TypeId;
+use ecma_types::id::{FieldId, MethodId, TypeId};
+use member_references::{References, read_references};
 use pe_reader::Pe;
 use plain_types::fault::NoMemory;
 use std::alloc::Global;
@@ -25,6 +27,7 @@ use type_names::{TypeNames, Unresolved, WorldRefusal};
 pub struct World<'a> {
     names: TypeNames<'a>,
     classes: ClassTable<'a>,
+    references: References,
 }
 
 impl<'a> Model for World<'a> {
@@ -56,7 +59,15 @@ impl<'a> World<'a> {
             Ok(classes) => classes,
             Err(NoMemory) => return Err(WorldRefusal::NoMemory),
         };
-        Ok(World { names, classes })
+        let references = match read_references(alloc, &names, &classes) {
+            Ok(references) => references,
+            Err(NoMemory) => return Err(WorldRefusal::NoMemory),
+        };
+        Ok(World {
+            names,
+            classes,
+            references,
+        })
     }
 
     /// How many files the world has: the two of the base library and any others.
@@ -106,5 +117,27 @@ impl<'a> World<'a> {
         ensures { result_ok result ≡ option_map type_id (type_resolved self.now file token) }
     {
         self.names.resolve_type(file, token)
+    }
+
+    /// The field that a Field or MemberRef token of a file names (ECMA-335 II.22.15, II.22.25): one of the file itself
+    /// that a type has, or the first of the reference's name and type in the class that the reference names, or else in
+    /// the nearest of its superclasses that has one. [`Unresolved`] exactly where there is none, where the reference is
+    /// one of a method, and for other tokens.
+    pub fn resolve_field(&self, file: u16, token: u32) -> Result<FieldId, Unresolved>
+        requires { file < length self.now }
+        ensures { result_ok result ≡ option_map field_id (field_resolved self.now file token) }
+    {
+        self.references.resolve_field(&self.names, &self.classes, file, token)
+    }
+
+    /// The method that a MethodDef or MemberRef token of a file names (ECMA-335 II.22.26, II.22.25): one of the file
+    /// itself that a type has, or the first of the reference's name and signature in the class that the reference names,
+    /// or else in the nearest of its superclasses that has one. [`Unresolved`] exactly where there is none, where the
+    /// reference is one of a field, and for other tokens.
+    pub fn resolve_method(&self, file: u16, token: u32) -> Result<MethodId, Unresolved>
+        requires { file < length self.now }
+        ensures { result_ok result ≡ option_map method_id (method_resolved self.now file token) }
+    {
+        self.references.resolve_method(&self.names, &self.classes, file, token)
     }
 }
