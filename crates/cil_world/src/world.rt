@@ -130,7 +130,8 @@ impl<'a> World<'a> {
         requires { file < length self.now }
         ensures { result_ok result ≡ option_map field_id (field_resolved self.now file token) }
     {
-        self.references.resolve_field(&self.names, &self.classes, file, token)
+        self.references
+            .resolve_field(&self.names, &self.classes, file, token)
     }
 
     /// The method that a MethodDef or MemberRef token of a file names (ECMA-335 II.22.26, II.22.25): one of the file
@@ -141,6 +142,7 @@ impl<'a> World<'a> {
         requires { file < length self.now }
         ensures { result_ok result ≡ option_map method_id (method_resolved self.now file token) }
     {
-        self.references.resolve_method(&self.names, &self.classes, file, token)
+        self.references
+            .resolve_method(&self.names, &self.classes, file, token)
     }
 }
