@@ -1,0 +1,5 @@
+pub mod ListLaws
+pub mod OrderLaws
+pub mod ClassLaws
+pub mod FieldLaws
+pub mod MethodLaws
