@@ -1,13 +1,32 @@
 //! The jobs of the program.
 
+ghost use Rattle.std.specs.Prelude.{◌≡◌};
+ghost use Rattle.mf_front.specs.Jobs.{files_of};
+
 use plain_types::fault::NoMemory;
-use plain_types::list::Text;
+use plain_types::list::{Items, Text};
+use std::slice;
 
 /// What the program is asked to do.
 #[derive(Debug, Drop)]
 pub enum Job {
     /// Reads one assembly of constants, and runs it for at most so many steps.
     Run1 { file: Text, steps: u64 },
+    /// Reads assemblies, and tells the first rule that they break behind the base library, if they do. There are 1 to
+    /// 1,000 files.
+    Check { files: Items<Text> },
+}
+
+impl Job {
+    /// The files that the job reads, in order.
+    pub fn files(&self) -> &[Text]
+        ensures { result.now ≡ files_of self.now }
+    {
+        match self {
+            Job::Run1 { file, .. } => slice::from_ref(file),
+            Job::Check { files } => files.as_slice(),
+        }
+    }
 }
 
 /// Why words give no job.

@@ -23,6 +23,8 @@ pub enum Outcome {
     ReadFault { file: Text },
     /// The host has no memory left.
     NoMemory,
+    /// So many files, behind the base library, break none of the rules 1 to 30.
+    ProfileAccepted { files: u16 },
     /// A run ended, with this status and this finished text.
     Ran { status: u8, text: Items<u8> },
 }

@@ -3,7 +3,7 @@
 ghost use Rattle.std.specs.Prelude.{◌≡◌, ◌++◌, IfOk};
 ghost use Rattle.std.specs.Fmt.{decimal};
 ghost use Rattle.std.specs.String.{string_bytes};
-ghost use Rattle.mf_front.specs.Texts.{place_text, refused_text, end_text, status_of, text_of};
+ghost use Rattle.mf_front.specs.Texts.{place_text, refused_text, accepted_text, end_text, status_of, text_of};
 
 use crate::outcome::{End, Outcome};
 use plain_types::fault::{Fault, NoMemory, Place};
@@ -11,7 +11,7 @@ use plain_types::list::Items;
 use std::alloc::{AllocError, Global};
 
 /// The line that tells which words are a job.
-const USAGE: &str = "usage: mfdeploy run1 FILE STEPS\n";
+const USAGE: &str = "usage: mfdeploy check FILES | run1 FILE STEPS\n";
 
 /// A label and a number behind it.
 fn labelled(alloc: Global, label: &str, number: u32) -> Result<String, AllocError>
@@ -44,6 +44,16 @@ fn refused(alloc: Global, fault: &Fault, file: &str) -> Result<String, AllocErro
     text.push_str(" ")?;
     text.push_str(file)?;
     text.push_str(place.as_str())?;
+    Ok(text)
+}
+
+/// The line of accepted files.
+#[tactic(auto, unfolding(crate::specs::Texts::accepted_text))]
+fn accepted(alloc: Global, files: u16) -> Result<String, AllocError>
+    ensures { IfOk result (λ text. string_bytes text ≡ accepted_text files) }
+{
+    let mut text = labelled(alloc, "profile accepted: ", u32::from(files))?;
+    text.push_str(" files\n")?;
     Ok(text)
 }
 
@@ -90,6 +100,7 @@ pub fn text(alloc: Global, outcome: &Outcome) -> Result<Vec<u8>, NoMemory>
             bytes_of(alloc, format!(in alloc; "read fault: {file}\n")?.as_str())?
         }
         Outcome::NoMemory => bytes_of(alloc, no_memory_text())?,
+        Outcome::ProfileAccepted { files } => bytes_of(alloc, accepted(alloc, *files)?.as_str())?,
         Outcome::Ran { text, .. } => Vec::from_slice(alloc, text.as_slice())?,
     })
 }
@@ -103,6 +114,7 @@ pub fn status(outcome: &Outcome) -> u8
         Outcome::Refused { .. } => 2,
         Outcome::ReadFault { .. } => 6,
         Outcome::NoMemory => 8,
+        Outcome::ProfileAccepted { .. } => 0,
         Outcome::Ran { status, .. } => *status,
     }
 }

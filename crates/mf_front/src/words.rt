@@ -1,13 +1,19 @@
 //! The jobs that words spell.
 
-ghost use Rattle.std.specs.Prelude.{◌≡◌, Some, IfOk, IsErrOf, IsNone, map};
+ghost use Rattle.std.specs.Prelude.{◌≡◌, ◌≤◌, Some, IfOk, IsErrOf, IsNone, length, map, not, nat_le, ◌&&◌};
+ghost use Rattle.std.specs.List.{list_all};
 ghost use Rattle.std.specs.String.{string_bytes};
-ghost use Rattle.mf_front.specs.Words.{is_option, job_of};
+ghost use Rattle.mf_front.specs.Jobs.{files_of};
+ghost use Rattle.mf_front.specs.Words.{is_option, run1_of, check_of, job_of};
 
 use crate::jobs::{Job, JobRefusal};
 use numerals::numeral::number;
-use plain_types::list::Text;
+use plain_types::fault::NoMemory;
+use plain_types::list::{Items, Text};
 use std::alloc::Global;
+
+/// How many files a job takes, at most.
+const MOST_FILES: usize = 1000;
 
 /// Whether a word has two or more characters and begins with a hyphen.
 fn is_option(word: &str) -> bool
@@ -17,16 +23,49 @@ fn is_option(word: &str) -> bool
     bytes.len() >= 2 && bytes[0] == b'-'
 }
 
-/// The job that the words after the program's name spell. `NoJob` comes only where they spell none.
-#[tactic(auto, unfolding(crate::specs::Words::job_of))]
-pub fn job(alloc: Global, words: &[String]) -> Result<Job, JobRefusal>
-    ensures found { IfOk result (λ job. job_of (map string_bytes words.now) ≡ Some job) }
-    ensures none { IsErrOf result JobRefusal.NoJob → IsNone (job_of (map string_bytes words.now)) }
+/// Whether a word is no option.
+fn is_file(word: &String) -> bool
+    ensures { result ≡ not (is_option (string_bytes word.now)) }
 {
-    let [command, file, steps] = words else {
+    !is_option(word.as_str())
+}
+
+/// Whether none of the words is an option.
+fn are_files(words: &[String]) -> bool
+    ensures { result ≡ list_all (λ word. not (is_option (string_bytes word))) words.now }
+{
+    words.iter().all(|word| is_file(word))
+}
+
+/// Whether words are 1 to 1,000 files.
+fn are_check_files(words: &[String]) -> bool
+    ensures { result ≡ (nat_le 1 (length words.now) && nat_le (length words.now) 1000 && list_all (λ word. not (is_option (string_bytes word))) words.now) }
+{
+    1 <= words.len() && words.len() <= MOST_FILES && are_files(words)
+}
+
+/// Copies of words.
+fn texts(alloc: Global, words: &[String]) -> Result<Items<Text>, NoMemory>
+    ensures { IfOk result (λ texts. texts ≡ map string_bytes words.now) }
+{
+    let mut texts = Vec::new(alloc);
+    for word in words {
+        texts.push(Text::copied(alloc, word.as_str())?)?;
+    }
+    Ok(Items::from_vec(texts))
+}
+
+/// The job `run1 FILE STEPS` of the words behind the first.
+#[tactic(auto, unfolding(crate::specs::Words::run1_of))]
+fn run1(alloc: Global, words: &[String]) -> Result<Job, JobRefusal>
+    ensures found { IfOk result (λ job. run1_of (map string_bytes words.now) ≡ Some job) }
+    ensures few { IfOk result (λ job. length (files_of job) ≤ 1000) }
+    ensures none { IsErrOf result JobRefusal.NoJob → IsNone (run1_of (map string_bytes words.now)) }
+{
+    let [file, steps] = words else {
         return Err(JobRefusal::NoJob);
     };
-    if command.as_str() != "run1" || is_option(file.as_str()) {
+    if is_option(file.as_str()) {
         return Err(JobRefusal::NoJob);
     }
     match number(steps.as_str(), u64::MAX) {
@@ -35,5 +74,37 @@ pub fn job(alloc: Global, words: &[String]) -> Result<Job, JobRefusal>
             Ok(Job::Run1 { file, steps })
         }
         None => Err(JobRefusal::NoJob),
+    }
+}
+
+/// The job `check FILES` of the words behind the first.
+#[tactic(auto, using(crate::proofs::WordLaws::files_found, crate::proofs::WordLaws::no_files))]
+fn check(alloc: Global, words: &[String]) -> Result<Job, JobRefusal>
+    ensures found { IfOk result (λ job. check_of (map string_bytes words.now) ≡ Some job) }
+    ensures few { IfOk result (λ job. length (files_of job) ≤ 1000) }
+    ensures none { IsErrOf result JobRefusal.NoJob → IsNone (check_of (map string_bytes words.now)) }
+{
+    if !are_check_files(words) {
+        return Err(JobRefusal::NoJob);
+    }
+    let files = texts(alloc, words)?;
+    Ok(Job::Check { files })
+}
+
+/// The job that the words after the program's name spell; it has at most 1,000 files. `NoJob` comes only where they
+/// spell none.
+#[tactic(auto, unfolding(crate::specs::Words::job_of))]
+pub fn job(alloc: Global, words: &[String]) -> Result<Job, JobRefusal>
+    ensures found { IfOk result (λ job. job_of (map string_bytes words.now) ≡ Some job) }
+    ensures few { IfOk result (λ job. length (files_of job) ≤ 1000) }
+    ensures none { IsErrOf result JobRefusal.NoJob → IsNone (job_of (map string_bytes words.now)) }
+{
+    let [command, words @ ..] = words else {
+        return Err(JobRefusal::NoJob);
+    };
+    match command.as_str() {
+        "run1" => run1(alloc, words),
+        "check" => check(alloc, words),
+        _ => Err(JobRefusal::NoJob),
     }
 }

@@ -1,0 +1,3 @@
+pub mod JudgeLaws
+pub mod OrderLaws
+pub mod RowLaws
