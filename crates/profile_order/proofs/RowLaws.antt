@@ -9,7 +9,7 @@ use Rattle.assemblies.proofs.Back.{get_within}
 use Rattle.world_rows.specs.Looked.{is_looked_at}
 use Rattle.verdict_rules.specs.Order.{first_fault, test, unless_at}
 use Rattle.profile_subject.specs.Faults.{row_at}
-use Rattle.profile_order.specs.StandIns.{AreLookedAt}
+use Rattle.looked_rows.specs.Looked.{AreLookedAt}
 
 pub row_is_at : (files : List FilePart) (file table n : ℕ) (x : FilePart) (row : List ℕ) → slice_get files file ≡ Some x → slice_get (rows_of x.metadata table) n ≡ Some row → row_at files file table n ≡ Some row
 row_is_at files file table n x row e at = ap (λ o. on_some o (λ (x : FilePart). slice_get (rows_of x.metadata table) n)) e ∙ at

@@ -5,7 +5,11 @@ use Rattle.world_rows.specs.Tokens.{member_refs, type_specs}
 use Rattle.profile_subject.specs.Subject.{IsSubject}
 use Rattle.profile_order.specs.declared.judge.FileColumns.{FileColumns}
 use Rattle.profile_order.specs.declared.judge.Judge.{Judge}
-use Rattle.profile_order.specs.StandIns.{AreColumns, AreNames, AreEntries, AreLookedAt}
+use Rattle.looked_rows.specs.Looked.{AreLookedAt}
+use Rattle.member_search.specs.declared.sort.Sort.TheVariants as sorts
+use Rattle.type_tests.specs.Columns.{AreColumns}
+use Rattle.type_tests.specs.Entries.{AreEntries}
+use Rattle.type_tests.specs.Names.{AreNames}
 
 pub record AreFileColumns (files : List FilePart) (file : ℕ) (c : FileColumns) : Type 0 where
   pub types : AreColumns files file c.types
@@ -18,6 +22,8 @@ pub record AreAllColumns (files : List FilePart) (all : List FileColumns) : Type
 
 pub record IsJudge (j : Judge) : Type 0 where
   pub subject : IsSubject j.subject.now
+  pub fields : j.fields ≡ record { sort = sorts.Field; table = j.subject.now.setting.table.now }
+  pub methods : j.methods ≡ record { sort = sorts.Method; table = j.subject.now.setting.table.now }
   pub names : AreNames j.subject.now.world.now j.names
   pub entries : AreEntries j.subject.now.world.now j.entries
   pub files : AreAllColumns j.subject.now.world.now j.files.items

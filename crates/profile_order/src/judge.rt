@@ -4,15 +4,17 @@ ghost use Rattle.std.specs.Prelude.{◌≡◌, ◌<◌, IfOk, length};
 ghost use Rattle.profile_subject.specs.Subject.{IsSubject};
 ghost use Rattle.profile_order.specs.Judge.{AreFileColumns, AreAllColumns, IsJudge};
 
-use crate::stand_ins::{AssemblyNames, Entries, Looked, TypeColumns, looked_at};
+use looked_rows::{Looked, looked_at};
+use member_search::{MemberIndex, Sort};
 use plain_types::fault::NoMemory;
 use profile_subject::Subject;
 use std::alloc::Global;
+use type_tests::{AssemblyNames, Entries, TypeColumns};
 
 /// What the rows of a file are looked up by.
 #[derive(Drop)]
-pub struct FileColumns {
-    pub types: TypeColumns,
+pub struct FileColumns<'a> {
+    pub types: TypeColumns<'a>,
     pub looked: Looked,
 }
 
@@ -20,17 +22,19 @@ pub struct FileColumns {
 #[derive(Drop)]
 pub struct Judge<'s, 'w, 'a> {
     pub subject: &'s Subject<'w, 'a>,
-    pub names: AssemblyNames,
+    pub fields: MemberIndex<'w, 'a>,
+    pub methods: MemberIndex<'w, 'a>,
+    pub names: AssemblyNames<'a>,
     pub entries: Entries,
-    pub files: Vec<FileColumns>,
+    pub files: Vec<FileColumns<'a>>,
 }
 
 /// What the rows of a file are looked up by.
-fn read_columns(
+fn read_columns<'a>(
     alloc: Global,
-    subject: &Subject<'_, '_>,
+    subject: &Subject<'_, 'a>,
     file: u16,
-) -> Result<FileColumns, NoMemory>
+) -> Result<FileColumns<'a>, NoMemory>
     requires { file < length subject.now.world.now }
     ensures { IfOk result (AreFileColumns subject.now.world.now file) }
 {
@@ -42,7 +46,10 @@ fn read_columns(
 }
 
 /// The same of each file.
-fn read_files(alloc: Global, subject: &Subject<'_, '_>) -> Result<Vec<FileColumns>, NoMemory>
+fn read_files<'a>(
+    alloc: Global,
+    subject: &Subject<'_, 'a>,
+) -> Result<Vec<FileColumns<'a>>, NoMemory>
     ensures { IfOk result (λ all. AreAllColumns subject.now.world.now all.items) }
 {
     let mut all = Vec::new(alloc);
@@ -63,14 +70,16 @@ pub fn read_judge<'s, 'w, 'a>(
 {
     Ok(Judge {
         subject,
+        fields: MemberIndex::new(alloc, subject.setting.table, Sort::Field)?,
+        methods: MemberIndex::new(alloc, subject.setting.table, Sort::Method)?,
         names: AssemblyNames::new(alloc, subject.world)?,
-        entries: Entries::new(subject.world)?,
+        entries: Entries::new(subject.world),
         files: read_files(alloc, subject)?,
     })
 }
 
 /// What the rows of one of the files are looked up by.
-pub fn columns<'j>(judge: &'j Judge<'_, '_, '_>, file: u16) -> &'j FileColumns
+pub fn columns<'j, 'a>(judge: &'j Judge<'_, '_, 'a>, file: u16) -> &'j FileColumns<'a>
     requires judge { IsJudge judge.now }
     requires file { file < length judge.now.subject.now.world.now }
     ensures { AreFileColumns judge.now.subject.now.world.now file result.now }

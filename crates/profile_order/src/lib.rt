@@ -5,7 +5,6 @@
 mod judge;
 mod order;
 mod rows;
-mod stand_ins;
 mod tables;
 
 pub use judge::{Judge, read_judge};

@@ -7,10 +7,11 @@ ghost use Rattle.profile_order.specs.Told.{rows_in, table_told, tables_told, who
 
 use crate::judge::Judge;
 use crate::rows::row_fault;
-use crate::stand_ins::{entry_fault, library_fault};
 use crate::tables::{Phase, ProfileTable};
+use library_tests::library_fault;
 use plain_types::fault::{Fault, NoMemory};
 use std::alloc::Global;
+use type_tests::entry_fault;
 
 /// How many rows a table of a file has.
 fn count_rows(judge: &Judge<'_, '_, '_>, table: ProfileTable, file: u16) -> u32
@@ -74,7 +75,7 @@ fn whole_fault(
     ensures { IfOk result (λ fault. fault ≡ whole_told judge.now.subject.now.world.now file phase) }
 {
     match phase {
-        Phase::Types => Ok(entry_fault(judge.subject, &judge.entries, file)?),
+        Phase::Types => Ok(entry_fault(judge.subject, &judge.entries, file)),
         Phase::Members => Ok(library_fault(alloc, judge.subject, file)?),
     }
 }

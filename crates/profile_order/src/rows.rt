@@ -7,19 +7,18 @@ ghost use Rattle.verdict_rules.specs.Order.{first_fault, test, unless_at};
 ghost use Rattle.verdict_rules.specs.World.{World, world_of};
 ghost use Rattle.verdict_rules.specs.Types.{refused};
 ghost use Rattle.verdict_rules.specs.Members.{reference_wrong, spec_wrong};
-ghost use Rattle.profile_order.specs.StandIns.{TellsRow};
+ghost use Rattle.signature_tests.specs.Rows.{TellsRow};
 ghost use Rattle.profile_order.specs.Tables.{number_of, tests_of};
 ghost use Rattle.profile_order.specs.Told.{row_told, IsRow};
 ghost use Rattle.profile_order.specs.Judge.{IsJudge};
 
 use crate::judge::{Judge, columns};
-use crate::stand_ins::{
-    assembly_fault, field_apart, field_well, field_wrong, interface_fault, locals_wrong,
-    method_apart, method_well, method_wrong, reference_wrong, spec_wrong, type_fault,
-};
 use crate::tables::ProfileTable;
+use member_tests::{field_apart, field_well, method_apart, method_well};
 use plain_types::fault::{Fault, NoMemory, Place};
+use signature_tests::{field_wrong, locals_wrong, method_wrong, reference_wrong, spec_wrong};
 use std::alloc::Global;
+use type_tests::{assembly_fault, interface_fault, type_fault};
 
 /// The place of a row, which counts from 0.
 fn place_of(file: u16, table: ProfileTable, n: u32) -> Place
@@ -86,7 +85,7 @@ fn type_row(judge: &Judge<'_, '_, '_>, file: u16, n: u32) -> Result<Option<Fault
     ensures { IfOk result (λ fault. fault ≡ row_told judge.now.subject.now.world.now file ProfileTable.TypeDefs n) }
 {
     let columns = columns(judge, file);
-    Ok(type_fault(judge.subject, &columns.types, file, n)?)
+    Ok(type_fault(judge.subject, &columns.types, file, n))
 }
 
 /// What is told of an interface that a type names.
@@ -95,7 +94,7 @@ fn interface_row(judge: &Judge<'_, '_, '_>, file: u16, n: u32) -> Result<Option<
     requires row { IsRow judge.now.subject.now.world.now file ProfileTable.InterfaceImpls n }
     ensures { IfOk result (λ fault. fault ≡ row_told judge.now.subject.now.world.now file ProfileTable.InterfaceImpls n) }
 {
-    Ok(interface_fault(judge.subject, file, n)?)
+    Ok(interface_fault(judge.subject, file, n))
 }
 
 /// What is told of an assembly.
@@ -104,18 +103,23 @@ fn assembly_row(judge: &Judge<'_, '_, '_>, file: u16, n: u32) -> Result<Option<F
     requires row { IsRow judge.now.subject.now.world.now file ProfileTable.Assemblies n }
     ensures { IfOk result (λ fault. fault ≡ row_told judge.now.subject.now.world.now file ProfileTable.Assemblies n) }
 {
-    Ok(assembly_fault(judge.subject, &judge.names, file, n)?)
+    Ok(assembly_fault(judge.subject, &judge.names, file, n))
 }
 
 /// What is told of a field.
-fn field_row(judge: &Judge<'_, '_, '_>, file: u16, n: u32) -> Result<Option<Fault>, NoMemory>
+fn field_row(
+    alloc: Global,
+    judge: &Judge<'_, '_, '_>,
+    file: u16,
+    n: u32,
+) -> Result<Option<Fault>, NoMemory>
     requires judge { IsJudge judge.now }
     requires row { IsRow judge.now.subject.now.world.now file ProfileTable.Fields n }
     ensures { IfOk result (λ fault. fault ≡ row_told judge.now.subject.now.world.now file ProfileTable.Fields n) }
 {
-    let wrong = field_wrong(judge.subject, file, n)?;
-    let is_well = field_well(judge.subject, file, n)?;
-    let is_apart = field_apart(judge.subject, file, n)?;
+    let wrong = field_wrong(judge.subject, file, n);
+    let is_well = field_well(judge.subject, file, n);
+    let is_apart = field_apart(alloc, judge.subject, &judge.fields, file, n);
     let place = place_of(file, ProfileTable::Fields, n);
     Ok(refuse_member(place, wrong, 28, is_well, is_apart))
 }
@@ -132,8 +136,8 @@ fn method_row(
     ensures { IfOk result (λ fault. fault ≡ row_told judge.now.subject.now.world.now file ProfileTable.Methods n) }
 {
     let wrong = method_wrong(alloc, judge.subject, file, n)?;
-    let is_well = method_well(alloc, judge.subject, file, n)?;
-    let is_apart = method_apart(alloc, judge.subject, file, n)?;
+    let is_well = method_well(alloc, judge.subject, file, n);
+    let is_apart = method_apart(alloc, judge.subject, &judge.methods, file, n)?;
     let place = place_of(file, ProfileTable::Methods, n);
     Ok(refuse_member(place, wrong, 29, is_well, is_apart))
 }
@@ -210,7 +214,7 @@ fn spec_place(
     ensures { IfOk result (TellsRow judge.now.subject.now.world.now file type_specs n (λ m row. if is_looked_at then spec_wrong (world_of judge.now.subject.now.world.now) file m (bytes_at m (slice_index row 0)) else None)) }
 {
     if is_looked_at {
-        spec_wrong(judge.subject, file, n)
+        Ok(spec_wrong(judge.subject, file, n))
     } else {
         Ok(None)
     }
@@ -265,7 +269,7 @@ pub fn row_fault(
         ProfileTable::GenericParams => Ok(refused_row(judge, table, file, n, 20)),
         ProfileTable::MethodSpecs => Ok(refused_row(judge, table, file, n, 20)),
         ProfileTable::GenericConstraints => Ok(refused_row(judge, table, file, n, 20)),
-        ProfileTable::Fields => field_row(judge, file, n),
+        ProfileTable::Fields => field_row(alloc, judge, file, n),
         ProfileTable::Methods => method_row(alloc, judge, file, n),
         ProfileTable::MemberRefs => reference_row(alloc, judge, file, n),
         ProfileTable::LocalsSignatures => locals_row(alloc, judge, file, n),

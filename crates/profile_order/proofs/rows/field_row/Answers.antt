@@ -12,6 +12,6 @@ returns c =
     (λ x row e at.
     c.refuse_member.ensures
     ∙ member_told c.place_of-place.result c.args.file fields c.args.n c.place_of-place.ensures 28 _ _ _ _ _ _
-    (c.in_ok-wrong.ensures x row e (row_is_at files c.args.file fields c.args.n x row e at))
-    c.in_ok-is_well.ensures
-    c.in_ok-is_apart.ensures)
+    (c.field_wrong-wrong.ensures x row e (row_is_at files c.args.file fields c.args.n x row e at))
+    c.field_well-is_well.ensures
+    c.field_apart-is_apart.ensures)

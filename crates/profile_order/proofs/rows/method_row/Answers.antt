@@ -13,5 +13,5 @@ returns c =
     c.refuse_member.ensures
     ∙ member_told c.place_of-place.result c.args.file methods c.args.n c.place_of-place.ensures 29 _ _ _ _ _ _
     (c.in_ok-wrong.ensures x row e (row_is_at files c.args.file methods c.args.n x row e at))
-    (c.in_ok-is_well.ensures x row e (row_is_at files c.args.file methods c.args.n x row e at))
+    (c.method_well-is_well.ensures x row e (row_is_at files c.args.file methods c.args.n x row e at))
     (c.in_ok-is_apart.ensures x e))

@@ -1,0 +1,34 @@
+//! The rules of names, types and members of a world (ECMA-335 II.22, II.23): rules 20 to 30 in their order.
+#![tactic(auto)]
+
+ghost use Rattle.std.specs.Prelude.{◌≡◌, IfOk};
+ghost use Rattle.verdict_rules.specs.Verdict.{profile};
+
+use cil_world::World;
+use class_checks::{Setting, find_library};
+use class_queries::{Way, chain_heights};
+use plain_types::fault::{Fault, NoMemory};
+use profile_order::{profile_fault, read_judge};
+use profile_subject::Subject;
+use std::alloc::Global;
+
+/// The first rule of 20 to 30 that the files of a world break: in all files those of types, 20 to 26, and then those of
+/// signatures and members, 27 to 30; a file's tables and rows in their order.
+pub fn check(alloc: Global, world: &World<'_>) -> Result<Option<Fault>, NoMemory>
+    ensures { IfOk result (λ fault. fault ≡ profile world.now) }
+{
+    let table = world.classes();
+    let above = chain_heights(alloc, table, Way::Above)?;
+    let interfaces = chain_heights(alloc, table, Way::Interfaces)?;
+    let around = chain_heights(alloc, table, Way::Around)?;
+    let setting = Setting {
+        table,
+        library: find_library(table),
+        above: &above,
+        interfaces: &interfaces,
+        around: &around,
+    };
+    let subject = Subject { world, setting };
+    let judge = read_judge(alloc, &subject)?;
+    profile_fault(alloc, &judge)
+}
