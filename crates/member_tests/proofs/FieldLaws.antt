@@ -16,7 +16,7 @@ use Rattle.assemblies.specs.Binding.{id_at, numbered, range, holds, own_field, c
 use Rattle.assemblies.proofs.Back.{get_there}
 use Rattle.assemblies.proofs.Belong.{some_map}
 use Rattle.kept_rows.proofs.SelectLaws.{passes}
-use Rattle.world_rows.specs.Tokens.{type_defs, fields}
+use Rattle.world_rows.specs.Tokens.{type_defs}
 use Rattle.world_rows.specs.Rows.{type_row}
 use Rattle.world_rows.specs.Kinds.{kind_of, data_of}
 use Rattle.world_rows.specs.Read.{TypesStand}
