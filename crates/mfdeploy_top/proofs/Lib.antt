@@ -1,2 +1,4 @@
 pub mod FormLemmas
+pub mod JobLaws
+pub mod ProfileLaws
 pub mod WritingLemmas

@@ -1,19 +1,15 @@
-//! The job `run1`.
+//! What the job `run1` makes of its file.
 
-ghost use Rattle.std.specs.Prelude.{◌≡◌, ◌⊎◌, map};
-ghost use Rattle.std.specs.String.{string_bytes};
-ghost use Rattle.mf_types.specs.Files.{FilesStay};
+ghost use Rattle.std.specs.Prelude.{◌≡◌, ◌⊎◌};
 ghost use Rattle.mf_front.specs.Texts.{end_text};
-ghost use Rattle.mf_front.specs.Words.{job_of};
-ghost use Rattle.mfdeploy_top.specs.FirstPath.{ComesTo, answer_of};
+ghost use Rattle.mfdeploy_top.specs.FirstPath.{run_of};
 
 use crate::form::code_of;
-use mf_front::{End, Job, JobRefusal, Outcome, end_line, job};
-use mf_types::store::{Store, StoreErr};
+use mf_front::{End, Outcome, end_line};
 use plain_types::fault::NoMemory;
 use plain_types::list::Text;
 use std::alloc::Global;
-use tiny_interp::postfix::run1;
+use tiny_interp::postfix;
 
 /// What a run's end comes to.
 fn ran(alloc: Global, end: End) -> Outcome
@@ -25,39 +21,15 @@ fn ran(alloc: Global, end: End) -> Outcome
     }
 }
 
-/// What a file's bytes come to.
-fn answer(alloc: Global, bytes: &[u8], file: Text, steps: u64) -> Outcome
-    ensures { (result ≡ answer_of bytes.now file steps) ⊎ (result ≡ Outcome.NoMemory) }
+/// What a file's bytes come to, run for at most so many steps.
+pub fn run1(alloc: Global, bytes: &[u8], file: Text, steps: u64) -> Outcome
+    ensures { (result ≡ run_of bytes.now file steps) ⊎ (result ≡ Outcome.NoMemory) }
 {
     match code_of(bytes) {
         Err(fault) => Outcome::Refused { fault, file },
-        Ok(code) => match run1(code, steps) {
+        Ok(code) => match postfix::run1(code, steps) {
             Some(value) => ran(alloc, End::Returned(value)),
             None => ran(alloc, End::StepsSpent),
         },
-    }
-}
-
-/// Reads a file, and tells what it comes to.
-fn run_file<S: Store>(alloc: Global, file: Text, steps: u64, store: &mut S) -> Outcome
-    ensures comes { ComesTo (Some (Job.Run1 file steps)) (S.state store.old) (S.state store.new) result }
-    ensures files_stay { FilesStay (S.state store.old).held (S.state store.new).held }
-{
-    match store.read(alloc, file.as_str()) {
-        Ok(bytes) => answer(alloc, bytes.as_slice(), file, steps),
-        Err(StoreErr::Failed) => Outcome::ReadFault { file },
-        Err(StoreErr::NoMemory) => Outcome::NoMemory,
-    }
-}
-
-/// What the words come to.
-pub fn outcome_of<S: Store>(alloc: Global, words: &[String], store: &mut S) -> Outcome
-    ensures comes { ComesTo (job_of (map string_bytes words.now)) (S.state store.old) (S.state store.new) result }
-    ensures files_stay { FilesStay (S.state store.old).held (S.state store.new).held }
-{
-    match job(alloc, words) {
-        Ok(Job::Run1 { file, steps }) => run_file(alloc, file, steps, store),
-        Err(JobRefusal::NoJob) => Outcome::Usage,
-        Err(JobRefusal::NoMemory) => Outcome::NoMemory,
     }
 }

@@ -6,15 +6,18 @@ ghost use Rattle.std.specs.String.{string_bytes};
 ghost use Rattle.mf_types.specs.Files.{FilesStay};
 ghost use Rattle.mf_front.specs.declared.outcome.Outcome.{Outcome};
 ghost use Rattle.mf_front.specs.Words.{job_of};
-ghost use Rattle.mfdeploy_top.specs.FirstPath.{ComesTo};
+ghost use Rattle.mfdeploy_top.specs.Jobs.{ComesTo};
 ghost use Rattle.mfdeploy_top.specs.Writing.{EndsWith};
 
+mod check;
 mod first_path;
 mod form;
+mod jobs;
+mod reading;
 mod tell;
 mod writing;
 
-use first_path::outcome_of;
+use jobs::outcome_of;
 use mf_types::sink::Sink;
 use mf_types::store::Store;
 use std::alloc::Global;
@@ -22,9 +25,10 @@ use tell::tell;
 
 /// Does the job that the words after the program's name spell, writes its text to the sink, and gives the status.
 ///
-/// The one job is `run1 FILE STEPS`: it reads one file, and runs its entry method for at most so many steps, where
-/// that is an expression of constants. The statuses are 0 done, 1 the words are no job, 2 the file breaks a rule or
-/// hasn't the form, 6 the file couldn't be read, 7 the sink failed, and 8 no memory.
+/// The job `check FILES` reads 1 to 1,000 files, and tells the first rule of 1 to 30 that they break behind the base
+/// library, or that they break none. The job `run1 FILE STEPS` reads one file, and runs its entry method for at most
+/// so many steps, where that is an expression of constants. The statuses are 0 done, 1 the words are no job, 2 a file
+/// breaks a rule or hasn't the form, 6 a file couldn't be read, 7 the sink failed, and 8 no memory.
 pub fn mfdeploy<S: Store, K: Sink>(
     alloc: Global,
     words: &[String],

@@ -116,7 +116,7 @@ const CONSTANTS: &[u8] = &[0x1F, 0x0A, 0x19, 0x5A, 0x17, 0x59, 0x2A];
 /// The greatest number and 1.
 const OVERFLOW: &[u8] = &[0x20, 0xFF, 0xFF, 0xFF, 0x7F, 0x17, 0x58, 0x2A];
 
-const USAGE: &str = "usage: mfdeploy run1 FILE STEPS\n";
+const USAGE: &str = "usage: mfdeploy check FILES | run1 FILE STEPS\n";
 
 /// How a row's bytes become those of its file.
 #[derive(Clone, Copy)]

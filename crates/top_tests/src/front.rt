@@ -20,7 +20,11 @@ fn outcomes_have_their_texts(rt: HostRuntime) -> Result<(), Fail> {
     let least = end_line(rt.alloc(), End::Returned(-2147483648)).map_err(|_| "memory")?;
     let spent = end_line(rt.alloc(), End::StepsSpent).map_err(|_| "memory")?;
     let rows = [
-        (Outcome::Usage, 1, "usage: mfdeploy run1 FILE STEPS\n"),
+        (
+            Outcome::Usage,
+            1,
+            "usage: mfdeploy check FILES | run1 FILE STEPS\n",
+        ),
         (
             Outcome::Refused { fault, file },
             2,
@@ -28,6 +32,11 @@ fn outcomes_have_their_texts(rt: HostRuntime) -> Result<(), Fail> {
         ),
         (Outcome::ReadFault { file: other }, 6, "read fault: b.dll\n"),
         (Outcome::NoMemory, 8, "no memory\n"),
+        (
+            Outcome::ProfileAccepted { files: 12 },
+            0,
+            "profile accepted: 12 files\n",
+        ),
         (
             Outcome::Ran {
                 status: 0,
@@ -53,21 +62,51 @@ fn outcomes_have_their_texts(rt: HostRuntime) -> Result<(), Fail> {
     Ok(())
 }
 
-/// Words, and the file and steps that they ask for.
+/// What words ask for.
+#[derive(Clone, Copy)]
+enum Wanted {
+    Nothing,
+    Run1(&'static str, u64),
+    Check(&'static [&'static str]),
+}
+
+/// Whether a job is the wanted one.
+fn is_wanted(found: &Job, wanted: Wanted) -> bool {
+    match (found, wanted) {
+        (Job::Run1 { file, steps }, Wanted::Run1(name, count)) => {
+            file.as_str() == name && *steps == count
+        }
+        (Job::Check { files }, Wanted::Check(names)) => {
+            let files = files.as_slice();
+            files.len() == names.len()
+                && files
+                    .iter()
+                    .zip(names)
+                    .all(|(file, name)| file.as_str() == *name)
+        }
+        _ => false,
+    }
+}
+
+/// Words, and the job that they spell.
 #[test]
 fn words_are_jobs_or_none(rt: HostRuntime) -> Result<(), Fail> {
-    let rows: [(&[&str], Option<(&str, u64)>); 8] = [
-        (&["run1", "a.dll", "6"], Some(("a.dll", 6))),
+    let rows: [(&[&str], Wanted); 12] = [
+        (&["run1", "a.dll", "6"], Wanted::Run1("a.dll", 6)),
         (
             &["run1", "-", "18446744073709551615"],
-            Some(("-", u64::MAX)),
+            Wanted::Run1("-", u64::MAX),
         ),
-        (&["run1", "-a", "6"], None),
-        (&["run1", "a.dll", "01"], None),
-        (&["run1", "a.dll", "18446744073709551616"], None),
-        (&["run1", "a.dll"], None),
-        (&["run1", "a.dll", "6", "7"], None),
-        (&[], None),
+        (&["run1", "-a", "6"], Wanted::Nothing),
+        (&["run1", "a.dll", "01"], Wanted::Nothing),
+        (&["run1", "a.dll", "18446744073709551616"], Wanted::Nothing),
+        (&["run1", "a.dll"], Wanted::Nothing),
+        (&["run1", "a.dll", "6", "7"], Wanted::Nothing),
+        (&["check", "a.dll"], Wanted::Check(&["a.dll"])),
+        (&["check", "b", "-", "b"], Wanted::Check(&["b", "-", "b"])),
+        (&["check"], Wanted::Nothing),
+        (&["check", "a.dll", "-x"], Wanted::Nothing),
+        (&[], Wanted::Nothing),
     ];
     for (words, wanted) in rows {
         let mut owned = Vec::new(rt.alloc());
@@ -75,14 +114,26 @@ fn words_are_jobs_or_none(rt: HostRuntime) -> Result<(), Fail> {
             owned.push(String::from_str(rt.alloc(), word)?)?;
         }
         match job(rt.alloc(), &owned) {
-            Ok(Job::Run1 { file, steps }) => {
-                assert_eq!(rt; Some((file.as_str(), steps)), wanted);
-            }
+            Ok(found) => assert!(rt; is_wanted(&found, wanted)),
             Err(refusal) => {
                 assert_eq!(rt; refusal, JobRefusal::NoJob);
-                assert!(rt; wanted.is_none());
+                assert!(rt; matches!(wanted, Wanted::Nothing));
             }
         }
     }
+    Ok(())
+}
+
+/// As many files as a job takes, and one more.
+#[test]
+fn a_thousand_files_are_a_job(rt: HostRuntime) -> Result<(), Fail> {
+    let mut words = Vec::new(rt.alloc());
+    words.push(String::from_str(rt.alloc(), "check")?)?;
+    for _ in 0..1000 {
+        words.push(String::from_str(rt.alloc(), "a.dll")?)?;
+    }
+    assert!(rt; job(rt.alloc(), &words).is_ok());
+    words.push(String::from_str(rt.alloc(), "a.dll")?)?;
+    assert!(rt; job(rt.alloc(), &words).is_err());
     Ok(())
 }
