@@ -52,10 +52,15 @@ fn add_method(b: &mut Build, alloc: Global, flags: u16, sig: &[u8]) -> Result<()
 }
 
 const INT_FIELD: [u8; 2] = [0x06, 0x08];
+
 const OBJECT_FIELD: [u8; 2] = [0x06, 0x1C];
+
 const TEXT_FIELD: [u8; 2] = [0x06, 0x0E];
+
 const INSTANCE: [u8; 3] = [0x20, 0x00, 0x01];
+
 const OF_INT: [u8; 4] = [0x00, 0x01, 0x01, 0x08];
+
 const EQUALS: [u8; 4] = [0x20, 0x01, 0x02, 0x1C];
 
 /// The references of a parent to members.
@@ -198,10 +203,19 @@ fn members_of_no_type(rt: HostRuntime) -> Result<(), Fail> {
         .ok_or("no rule is broken")?;
     assert_eq!(rt; world.files(), 3);
     assert_eq!(rt; world.resolve_field(2, 0x0400_0001).ok(), None);
-    assert_eq!(rt; world.resolve_field(2, 0x0400_0002).ok(), Some(FieldId { file: 2, row: 2 }));
+    assert_eq!(rt;
+        world.resolve_field(2, 0x0400_0002).ok(),
+        Some(FieldId { file: 2, row: 2 })
+    );
     assert_eq!(rt; world.resolve_field(2, 0x0A00_0003).ok(), None);
     assert_eq!(rt; world.resolve_method(2, 0x0600_0001).ok(), None);
-    assert_eq!(rt; world.resolve_method(2, 0x0600_0002).ok(), Some(MethodId { file: 2, row: 2 }));
-    assert_eq!(rt; world.resolve_method(2, 0x0A00_0002).ok(), Some(MethodId { file: 2, row: 2 }));
+    assert_eq!(rt;
+        world.resolve_method(2, 0x0600_0002).ok(),
+        Some(MethodId { file: 2, row: 2 })
+    );
+    assert_eq!(rt;
+        world.resolve_method(2, 0x0A00_0002).ok(),
+        Some(MethodId { file: 2, row: 2 })
+    );
     Ok(())
 }
