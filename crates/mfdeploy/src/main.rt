@@ -1,15 +1,11 @@
 //! The program `mfdeploy`: the words of its command line, files, and standard output.
 #![tactic(auto)]
 
-mod file_store;
-mod std_sink;
-
-use file_store::FileStore;
 use mfdeploy_top::mfdeploy;
 use std::env::Env;
 use std::process::ExitCode;
 use std::{env, io};
-use std_sink::StdSink;
+use system_outside::{FileStore, StdSink};
 
 /// The status where there is no memory for the words.
 const NO_MEMORY: u8 = 8;
