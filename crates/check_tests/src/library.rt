@@ -72,14 +72,22 @@ fn told_in(want: Option<(u16, Told)>) -> Option<Fault> {
     }
 }
 
+/// Changes the bytes of one of the files.
+fn change_file(all: &mut Vec<Vec<u8>>, file: u16, changes: &[Change]) -> Result<(), Fail> {
+    let bytes = all
+        .get_mut(usize::from(file))
+        .ok_or("there is such a file")?;
+    for change in changes {
+        changed(bytes, change)?;
+    }
+    Ok(())
+}
+
 #[test]
 fn libraries(rt: HostRuntime) -> Result<(), Fail> {
     for (name, file, changes, entry, want) in LIBRARIES {
         let mut all = files(rt.alloc())?;
-        assert!(rt; (file as usize) < all.len());
-        for change in changes {
-            changed(&mut all[file as usize], change)?;
-        }
+        change_file(&mut all, file, changes)?;
         let program = Assembly {
             name: "App",
             entry,
