@@ -1,8 +1,8 @@
 //! The image of one assembly.
 
-ghost use Rattle.std.specs.Prelude.{◌≡◌, ℕ, ◌<◌, Some, IsSome, slice_index};
+ghost use Rattle.std.specs.Prelude.{◌≡◌, ℕ, ◌<◌, Some, IsSome, length, slice_index};
 ghost use Rattle.std.specs.Option.{option_map};
-ghost use Rattle.image_bytes.specs.Layout.{rows_of};
+ghost use Rattle.image_bytes.specs.Layout.{widths, rows_of};
 ghost use Rattle.image_form.specs.Form.{part};
 ghost use Rattle.image_form.specs.Whole.{seen, image_rows};
 ghost use Rattle.msspot_read.specs.Rows.{viewed, size_of, row_of, text_in, code_of, code_place, data_of};
@@ -109,7 +109,8 @@ impl<'a> Image<'a> {
     #[inline]
     pub fn row(&self, table: u8, n: u16) -> TinyRow
         requires { n < rows_of self.now table }
-        ensures { (k : ℕ) → slice_index result.columns k ≡ slice_index (row_of self.now table n) k }
+        ensures columns { (k : ℕ) → slice_index result.columns k ≡ slice_index (row_of self.now table n) k }
+        ensures width { length (row_of self.now table n) ≡ slice_index widths table }
     {
         self.parts.row(table, n)
     }

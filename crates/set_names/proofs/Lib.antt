@@ -1,0 +1,4 @@
+pub mod KeyLaws
+pub mod IndexLaws
+pub mod ReferenceLaws
+pub mod ResolveLaws

@@ -1,0 +1,4 @@
+pub mod TokenLaws
+pub mod PartLaws
+pub mod MemberLaws
+pub mod ExpandLaws
