@@ -1,4 +1,4 @@
-//! The verdict on a set of files, and that accepted programs never stick.
+//! The verdict on a set of files.
 #![tactic(auto)]
 
 pub mod law;

@@ -42,10 +42,10 @@ use Rattle.verdict_rules.specs.World.{World, world_of, exception_of}
 use Rattle.verdict_rules.specs.Members.{locals_tests, locals_wrong}
 use Rattle.verdict_rules.specs.Code.{unowned, walk_test, target_test, clause_well, clause_test, pass_test, listed_tests, body_of, body_tests, is_code, method_tests, code_tests, code_rules}
 use Rattle.verdict_rules.specs.Verdict.{member_rules}
-use Rattle.verdict_rules.proofs.Kept.{head_kept, tests_kept, row_kept}
-use Rattle.verdict_rules.proofs.Rows.{whole, file_there, file_at, native, from_zero}
-use Rattle.verdict_rules.proofs.Signatures.{none_wrong, locals_fit}
-use Rattle.verdict_rules.proofs.Listing.{lines_rise_here, some_line_here, closed_here}
+use Rattle.verdict_laws.proofs.Kept.{head_kept, tests_kept, row_kept}
+use Rattle.verdict_laws.proofs.Rows.{whole, file_there, file_at, native, from_zero}
+use Rattle.verdict_laws.proofs.Signatures.{none_wrong, locals_fit}
+use Rattle.verdict_laws.proofs.Listing.{lines_rise_here, some_line_here, closed_here}
 
 -- ---- lists of tests
 

@@ -37,9 +37,9 @@ use Rattle.verdict_rules.specs.Members.{of_member, field_wrong, field_well, fiel
 use Rattle.verdict_rules.specs.Code.{slot_rules, slot_tests}
 use Rattle.verdict_rules.specs.Library.{calls_native, library_well, library_tests}
 use Rattle.verdict_rules.specs.Verdict.{member_rules}
-use Rattle.verdict_rules.proofs.Kept.{tests_kept, row_kept, whole_kept}
-use Rattle.verdict_rules.proofs.Rows.{FieldAt, field_at, MethodAt, method_at, get_behind}
-use Rattle.verdict_rules.proofs.Signatures.{none_wrong, field_fits, method_fits}
+use Rattle.verdict_laws.proofs.Kept.{tests_kept, row_kept, whole_kept}
+use Rattle.verdict_laws.proofs.Rows.{FieldAt, field_at, MethodAt, method_at, get_behind}
+use Rattle.verdict_laws.proofs.Signatures.{none_wrong, field_fits, method_fits}
 
 -- the interfaces that rows name, where each row's passes
 implemented : (name : List ℕ → Option Id) (mine : List ℕ → Bool) (passes : Id → Bool) (rows : List (List ℕ)) → ((i : ℕ) (row : List ℕ) → slice_get rows i ≡ Some row → holds_some (name row) passes ≡ true) → list_all passes (filter_map name (filter mine rows)) ≡ true

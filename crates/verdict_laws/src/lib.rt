@@ -1,0 +1,4 @@
+//! Files that the verdict accepts behind the base library are typed, and never get stuck.
+#![tactic(auto)]
+
+pub mod law;

@@ -1,5 +1,0 @@
-use Rattle.verdict_rules.proofs.VerdictLaws.{typed}
-use Rattle.verdict_rules.proofs.law.accepted_files_are_typed.Goals as goal
-
-pub returns : goal.returns
-returns c xs opened accepted = typed xs accepted opened
