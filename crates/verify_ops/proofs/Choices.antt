@@ -28,7 +28,7 @@ use Rattle.verify_ops.specs.declared.row.Given.TheVariants as given
 use Rattle.verify_ops.specs.declared.row.Act.{Act}
 use Rattle.verify_ops.specs.declared.row.Act.TheVariants as act
 use Rattle.verify_ops.specs.declared.row.Row.{Row as CodeRow}
-use Rattle.verify_ops.specs.Types.{id_of, type_of, place_of, stack_or_never, from_top}
+use Rattle.place_types.specs.Types.{id_of, type_of, place_of, stack_or_never, from_top}
 use Rattle.verify_ops.specs.Facts.{number_or, operand_fits, instruction_by, method_by, program_by, method_named, is_abstract, is_made, is_void, is_new, result_of, this_place, receiver, body_of, callee, somewhere}
 use Rattle.verify_ops.specs.Effects.{lowest_of, loads, effect_by, shape_of, Leaves}
 use Rattle.verify_ops.specs.Acts.{judged_by, Judged, row_by, row_effect, Chosen, IsSpelt, NamesNumber}

@@ -16,7 +16,7 @@ use Rattle.code_rules.specs.Rows.{Rest, Keeps, Drops, WantsNone, behind, too_dee
 use Rattle.verify_ops.specs.declared.row.Rest.{Rest as CodeRest}
 use Rattle.verify_ops.specs.declared.row.Rest.TheVariants as rest
 use Rattle.verify_ops.specs.declared.row.Row.{Row as CodeRow}
-use Rattle.verify_ops.specs.Types.{stack_of, place_of, from_top}
+use Rattle.place_types.specs.Types.{stack_of, place_of, from_top}
 use Rattle.verify_ops.specs.Effects.{lowest_of, loads, is_never}
 use Rattle.verify_ops.specs.Acts.{rest_by, gives_by, deeper, passes_max, is_left, kept_by, kept_below, judged_by}
 

@@ -16,10 +16,6 @@ use Rattle.machine_typed.specs.Typing.{StackType, I, O, P, H, Never, ArrayKind, 
 use Rattle.classes.specs.Queries.{listed}
 use Rattle.class_rules.specs.Rules.{holds_some}
 use Rattle.code_rules.specs.Rows.{Row, Rest, Keeps, Drops, WantsNone, none, one, two, three, judged}
-use Rattle.verify_ops.specs.declared.types.ArrayFound.{ArrayFound}
-use Rattle.verify_ops.specs.declared.types.ArrayFound.TheVariants as found
-use Rattle.verify_ops.specs.declared.row.Held.{Held}
-use Rattle.verify_ops.specs.declared.row.Held.TheVariants as held
 use Rattle.verify_ops.specs.declared.row.Rest.{Rest as CodeRest}
 use Rattle.verify_ops.specs.declared.row.Rest.TheVariants as rest
 use Rattle.verify_ops.specs.declared.row.Wants.{Wants}
@@ -37,29 +33,17 @@ use Rattle.verify_ops.specs.declared.row.Pair.TheVariants as pair
 use Rattle.verify_ops.specs.declared.row.Act.{Act}
 use Rattle.verify_ops.specs.declared.row.Act.TheVariants as act
 use Rattle.verify_ops.specs.declared.row.Row.{Row as CodeRow}
-use Rattle.verify_ops.specs.declared.row.ArrayOperand.{ArrayOperand}
+use Rattle.place_types.specs.declared.held.ArrayOperand.{ArrayOperand}
 use Rattle.verify_ops.specs.declared.facts.Facts.{Facts}
 use Rattle.verify_ops.specs.declared.facts.OpRefusal.{OpRefusal}
 use Rattle.verify_ops.specs.declared.facts.OpRefusal.TheVariants as refusal
 use Rattle.verify_ops.specs.declared.facts.Operand.{Operand}
 use Rattle.verify_ops.specs.declared.facts.Operand.TheVariants as operand
 use Rattle.verify_ops.specs.declared.facts.FieldOperand.{FieldOperand}
-use Rattle.verify_ops.specs.Types.{type_of, place_of, stack_of, stack_or_never, from_top}
-use Rattle.verify_ops.specs.Facts.{instruction_by, program_by, field_named, names_plain, names_number, names_element, has_arrays, typed_access, access_named}
+use Rattle.place_types.specs.Types.{type_of, place_of, stack_of, stack_or_never, from_top}
+use Rattle.verify_ops.specs.Facts.{instruction_by, program_by, field_named, names_plain, names_number, names_element, typed_access, access_named}
+use Rattle.place_types.specs.Held.{cell_by, has_arrays, IsArrayOf}
 use Rattle.verify_ops.specs.Effects.{lowest_of, loads, effect_by}
-
-abbrev pub cell_by : Held → Cell
-cell_by (held.Number integer) = Bits integer
-cell_by held.Reference = Refers
-
--- what a place that holds neither a number nor a reference gives
-abbrev pub unheld_type : Elem → StackType
-unheld_type elem.Value = H
-unheld_type _ = Never
-
-abbrev pub array_by : ArrayFound → ArrayKind
-array_by found.Null = NullArray
-array_by (found.Of a) = ArrayWith (type_of a.element)
 
 abbrev pub rest_by : CodeRest → Rest
 rest_by rest.Keeps = Keeps
@@ -164,17 +148,9 @@ Judged p r most stack (Ok g) = judged_by p r most stack ≡ Ok (types_given g ++
 Judged p r most stack (Err (refusal.Broken rule)) = judged_by p r most stack ≡ Err rule
 Judged p r most stack (Err refusal.NoMemory) = Unit {0}
 
--- the array type beside an element's type is that of its arrays
-abbrev pub IsArrayOf : WorldPlace → WorldPlace → Type 0
-IsArrayOf element array = type_of array ≡ ArrayOf (type_of element)
-
 abbrev pub ElementSpelt : Element → Type 0
 ElementSpelt (element.Exact h) = Unit {0}
 ElementSpelt (element.Typed o) = IsArrayOf o.element o.array
-
-abbrev pub FoundSpelt : ArrayFound → Type 0
-FoundSpelt found.Null = Unit {0}
-FoundSpelt (found.Of a) = IsArrayOf a.element a.array
 
 abbrev pub PairSpelt : Pair → Type 0
 PairSpelt (pair.LoadElement a) = ElementSpelt a

@@ -22,7 +22,8 @@ use Rattle.verify_ops.specs.declared.facts.Operand.{Operand}
 use Rattle.verify_ops.specs.declared.facts.Operand.TheVariants as operand
 use Rattle.verify_ops.specs.declared.facts.FieldOperand.{FieldOperand}
 use Rattle.verify_ops.specs.declared.facts.MethodOperand.{MethodOperand}
-use Rattle.verify_ops.specs.Types.{id_of, type_of, place_of}
+use Rattle.place_types.specs.Types.{id_of, type_of, place_of}
+use Rattle.place_types.specs.Held.{has_arrays, is_reference_type}
 
 -- ---- what the operand names
 
@@ -43,13 +44,6 @@ names_text operand.Text = true
 names_text _ = false
 
 -- ---- operands that an instruction takes (46), by the flags of rows (II.23.1.5, II.23.1.10, II.23.1.15)
-
--- an array of the type can be spelt
-abbrev pub has_arrays : WorldPlace → Bool
-has_arrays t = nat_lt t.ranks 65535
-
-abbrev pub is_reference_type : WorldPlace → Bool
-is_reference_type t = is_refers (cell_of (type_of t))
 
 abbrev pub is_string : Elem → Bool
 is_string elem.String = true

@@ -5,7 +5,7 @@ ghost use Rattle.std.specs.List.{list_any};
 ghost use Rattle.cil_opcodes.specs.Rows.{row_of};
 ghost use Rattle.machine.specs.Data.{CliType};
 ghost use Rattle.machine.specs.Program.{Program};
-ghost use Rattle.verify_ops.specs.Types.{Agrees, from_top};
+ghost use Rattle.place_types.specs.Types.{Agrees, from_top};
 ghost use Rattle.verify_ops.specs.Effects.{Gives, Leaves, effect_of, shape_of, is_never as is_never_type};
 ghost use Rattle.verify_ops.specs.Acts.{Chosen, IsSpelt, Judged, deeper, is_left as is_left_there, passes_max, kept_below, types_given};
 

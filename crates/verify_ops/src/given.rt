@@ -4,22 +4,24 @@ ghost use Rattle.std.specs.Prelude.{◌≡◌, Some, [], ◌∷◌, ◌++◌, If
 ghost use Rattle.std.specs.Option.{option_map};
 ghost use Rattle.machine.specs.Program.{Program};
 ghost use Rattle.machine.specs.Throw.{on_some};
-ghost use Rattle.machine_typed.specs.Typing.{all_assignable, when, is_int as is_int_type, loaded as loaded_as, compares_references as may_compare, branches_on_references as may_branch};
+ghost use Rattle.machine_typed.specs.Typing.{all_assignable, when, loaded as loaded_as, compares_references as may_compare, branches_on_references as may_branch};
 ghost use Rattle.classes.specs.Queries.{listed};
-ghost use Rattle.verify_ops.specs.Types.{stack_of, place_of, Agrees};
-ghost use Rattle.verify_ops.specs.Acts.{gives_by, types_given, single_by, pair_by, store_by, one_of, two_of, three_of, ElementSpelt, PairSpelt, IsArrayOf, IsSpelt};
+ghost use Rattle.place_types.specs.Types.{stack_of, place_of, Agrees};
+ghost use Rattle.verify_ops.specs.Acts.{gives_by, types_given, single_by, pair_by, store_by, one_of, two_of, three_of, ElementSpelt, PairSpelt, IsSpelt};
+ghost use Rattle.place_types.specs.Held.{IsArrayOf};
 ghost use Rattle.verify_ops.specs.declared.row.Pair.TheVariants as pair;
 ghost use Rattle.verify_ops.specs.declared.row.Single.TheVariants as single;
 
 use crate::judge::{
-    accessed, all_fit, array_takes, binary, element_loaded, element_takes, fits_some, is_compared,
-    meets, pointer_takes, shift, unary,
+    accessed, all_fit, array_takes, element_loaded, element_takes, fits_some, meets, pointer_takes,
 };
-use crate::row::{Act, ArrayOperand, Element, Given, Memory, Pair, Single};
-use crate::types::{array_found, loaded, number_type, pointee};
+use crate::row::{Act, Element, Given, Memory, Pair, Single};
 use cil_opcodes::shape::Comparison;
 use ecma_types::lattice::Lattice;
 use ecma_types::stack::{PlaceType, StackType};
+use place_types::held::ArrayOperand;
+use place_types::sorts::{binary, is_compared, is_int, shift, unary};
+use place_types::types::{array_found, loaded, number_type, pointee};
 use plain_types::fault::NoMemory;
 use std::alloc::Global;
 
@@ -103,13 +105,6 @@ fn single_gives(act: &Single, x: &StackType) -> Option<Given>
             None => None,
         },
     }
-}
-
-/// Whether it is an int32.
-fn is_int(of: &StackType) -> bool
-    ensures { result ≡ is_int_type (stack_of of.now) }
-{
-    matches!(of, StackType::I)
 }
 
 /// What a store through a pointer gives.

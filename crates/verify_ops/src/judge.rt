@@ -1,18 +1,20 @@
 //! How the types that an instruction takes are judged, and what they give (ECMA-335 III.1.5, III.1.8.1.2).
 
 ghost use Rattle.std.specs.Prelude.{◌≡◌, map, IfOk};
-ghost use Rattle.std.specs.Option.{option_map};
 ghost use Rattle.ecma_types.specs.declared.stack.StackType.TheVariants as world;
 ghost use Rattle.machine.specs.Program.{Program};
-ghost use Rattle.machine_typed.specs.Typing.{assignable, all_assignable, is_reference as is_reference_type, binary_type, shift_type, unary_type, sort_of, is_comparable, has_width, pointer_takes as may_point, accessed as accessed_as, array_takes as may_take, element_loaded as loaded_from, element_takes as may_store, loaded as loaded_as};
-ghost use Rattle.verify_ops.specs.Types.{type_of, place_of, stack_of, stack_or_never, Agrees};
-ghost use Rattle.verify_ops.specs.Acts.{meets as is_met, cell_by, access_by, element_by, array_by, ElementSpelt, FoundSpelt};
+ghost use Rattle.machine_typed.specs.Typing.{assignable, all_assignable, has_width, pointer_takes as may_point, accessed as accessed_as, array_takes as may_take, element_loaded as loaded_from, element_takes as may_store, loaded as loaded_as};
+ghost use Rattle.place_types.specs.Types.{type_of, place_of, stack_of, stack_or_never, Agrees};
+ghost use Rattle.verify_ops.specs.Acts.{meets as is_met, access_by, element_by, ElementSpelt};
+ghost use Rattle.place_types.specs.Held.{cell_by, array_by, FoundSpelt};
 
-use crate::row::{Element, Held, Memory, Wants};
-use crate::spelling::{is_agreeing, same_width, spelt};
-use crate::types::{ArrayFound, held, is_plain, loaded, number_type, value_type};
+use crate::row::{Element, Memory, Wants};
 use ecma_types::lattice::Lattice;
 use ecma_types::stack::{PlaceType, StackType};
+use place_types::held::Held;
+use place_types::sorts::is_reference;
+use place_types::spelling::{is_agreeing, same_width, spelt};
+use place_types::types::{ArrayFound, held, is_plain, loaded, number_type, value_type};
 use plain_types::fault::NoMemory;
 use std::alloc::Global;
 
@@ -94,13 +96,6 @@ pub fn all_fit<T: Lattice>(
     Ok(true)
 }
 
-/// Whether it is null or another reference.
-fn is_reference(of: &StackType) -> bool
-    ensures { result ≡ is_reference_type (stack_of of.now) }
-{
-    matches!(of, StackType::Null | StackType::O(_))
-}
-
 /// Whether a type is what is wanted.
 pub fn meets<T: Lattice>(
     alloc: Global,
@@ -116,50 +111,6 @@ pub fn meets<T: Lattice>(
         Wants::Reference => Ok(is_reference(of)),
         Wants::Int => Ok(matches!(of, StackType::I)),
         Wants::Condition => Ok(!matches!(of, StackType::H | StackType::Pointer(_))),
-    }
-}
-
-/// The type of an operator of one number.
-pub fn unary(x: &StackType) -> Option<StackType>
-    ensures { option_map stack_of result ≡ unary_type (sort_of (stack_of x.now)) }
-{
-    match x {
-        StackType::I => Some(StackType::I),
-        StackType::L => Some(StackType::L),
-        _ => None,
-    }
-}
-
-/// The type of an operator of two numbers of one width.
-pub fn binary(x: &StackType, y: &StackType) -> Option<StackType>
-    ensures { option_map stack_of result ≡ binary_type (sort_of (stack_of x.now)) (sort_of (stack_of y.now)) }
-{
-    match x {
-        StackType::I if matches!(y, StackType::I) => Some(StackType::I),
-        StackType::L if matches!(y, StackType::L) => Some(StackType::L),
-        _ => None,
-    }
-}
-
-/// The type of a shift of a number by an int32.
-pub fn shift(x: &StackType, y: &StackType) -> Option<StackType>
-    ensures { option_map stack_of result ≡ shift_type (sort_of (stack_of x.now)) (sort_of (stack_of y.now)) }
-{
-    match y {
-        StackType::I => unary(x),
-        _ => None,
-    }
-}
-
-/// Whether two values are compared, where `references` says that references are.
-pub fn is_compared(references: bool, x: &StackType, y: &StackType) -> bool
-    ensures { result ≡ is_comparable references (sort_of (stack_of x.now)) (sort_of (stack_of y.now)) }
-{
-    match x {
-        StackType::I => matches!(y, StackType::I),
-        StackType::L => matches!(y, StackType::L),
-        StackType::Null | StackType::O(_) => references && is_reference(y),
-        StackType::Pointer(_) | StackType::H => false,
     }
 }
 

@@ -8,7 +8,5 @@ pub mod judge;
 pub mod law;
 pub mod members;
 pub mod row;
-pub mod spelling;
 pub mod table;
 pub mod typed;
-pub mod types;

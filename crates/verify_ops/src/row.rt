@@ -2,13 +2,7 @@
 
 use cil_opcodes::shape::{Comparison, IntegerType};
 use ecma_types::stack::{PlaceType, StackType};
-
-/// What lies in a place: a number of an integer type, or a reference.
-#[derive(Clone, Copy)]
-pub enum Held {
-    Number(IntegerType),
-    Reference,
-}
+use place_types::held::{ArrayOperand, Held};
 
 /// What becomes of the types below those that an instruction takes.
 #[derive(Clone, Copy)]
@@ -44,13 +38,6 @@ pub enum Given {
 pub enum Memory {
     Exact(Held),
     Typed(PlaceType),
-}
-
-/// A type of elements, and the type of its arrays.
-#[derive(Clone, Copy)]
-pub struct ArrayOperand {
-    pub element: PlaceType,
-    pub array: PlaceType,
 }
 
 /// How an element of an array is read or written: by what lies there, or by the type that the operand names.

@@ -5,7 +5,7 @@ ghost use Rattle.cil_opcodes.specs.declared.shape.Shape.TheVariants as shape;
 ghost use Rattle.code_rules.specs.Rows.{pushing as pushing_row, storing, address_row, return_row};
 ghost use Rattle.machine.specs.Program.{Program};
 ghost use Rattle.machine_typed.specs.Typing.{loaded as loaded_as};
-ghost use Rattle.verify_ops.specs.Types.{place_of};
+ghost use Rattle.place_types.specs.Types.{place_of};
 ghost use Rattle.verify_ops.specs.Facts.{number_or, result_of, is_void as is_void_type};
 ghost use Rattle.verify_ops.specs.Acts.{row_by, Chosen, FindsPlace, IsSpelt};
 
@@ -19,9 +19,9 @@ use crate::typed::{
     boxed, cast, load_element, load_element_address, load_indirect, load_text, new_array,
     store_element, store_indirect, unboxed, unboxed_any,
 };
-use crate::types::{is_plain, loaded, pointee};
 use cil_opcodes::shape::Shape;
 use ecma_types::stack::{PlaceType, StackType};
+use place_types::types::{is_plain, loaded, pointee};
 use plain_types::elem::Elem;
 
 /// An operand token that doesn't resolve or is of a kind that the instruction doesn't take.

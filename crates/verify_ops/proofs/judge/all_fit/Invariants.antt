@@ -1,7 +1,7 @@
 use Rattle.std.proofs.Common.{◌≡◌, map, drop}
 use Rattle.machine.specs.Program.{Program}
 use Rattle.machine_typed.specs.Typing.{all_assignable, loaded}
-use Rattle.verify_ops.specs.Types.{Agrees, place_of, stack_of}
+use Rattle.place_types.specs.Types.{Agrees, place_of, stack_of}
 use Rattle.verify_ops.proofs.judge.all_fit.Given as goal
 
 abbrev pub invariant-loop-i : goal.invariant-loop-i

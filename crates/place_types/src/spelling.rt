@@ -4,10 +4,10 @@ ghost use Rattle.std.specs.Prelude.{◌≡◌, ◌↔◌, IsTrue};
 ghost use Rattle.machine.specs.Data.{type_eq, bytes_of};
 ghost use Rattle.machine.specs.Numbers.{same_width as has_same_width};
 ghost use Rattle.machine_typed.specs.Typing.{agrees};
-ghost use Rattle.verify_ops.specs.Types.{type_of, spelt as spelt_so, row_of_elem};
-ghost use Rattle.verify_ops.specs.Acts.{cell_by};
+ghost use Rattle.place_types.specs.Types.{type_of, spelt as spelt_so, row_of_elem};
+ghost use Rattle.place_types.specs.Held.{cell_by};
 
-use crate::row::Held;
+use crate::held::Held;
 use crate::types::held;
 use cil_opcodes::shape::IntegerType;
 use ecma_types::id::TypeId;

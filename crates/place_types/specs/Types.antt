@@ -1,5 +1,5 @@
 -- Types of the world as the machine has them.
-use Rattle.std.specs.Prelude.{◌≡◌, ℕ, zero, suc, Bool, true, false, nat_eq, List, map, reverse, Option, Some, None}
+use Rattle.std.specs.Prelude.{◌≡◌, ℕ, zero, suc, ◌+◌, Bool, true, false, nat_eq, List, map, reverse, Option, Some, None}
 use Rattle.plain_types.specs.declared.elem.Elem.{Elem}
 use Rattle.plain_types.specs.declared.elem.Elem.TheVariants as elem
 use Rattle.ecma_types.specs.declared.id.TypeId.{TypeId}
@@ -7,6 +7,7 @@ use Rattle.ecma_types.specs.declared.stack.PlaceType.{PlaceType as WorldPlace}
 use Rattle.ecma_types.specs.declared.stack.StackType.{StackType as WorldType}
 use Rattle.ecma_types.specs.declared.stack.StackType.TheVariants as world
 use Rattle.machine.specs.Data.{Id, CliType, Basic, EnumOf, ClassOf, ValueOf, ArrayOf, PlaceType, Plain, To}
+use Rattle.machine_rename.specs.Rename.{Renaming, type_to, place_type_to}
 use Rattle.machine_typed.specs.Typing.{StackType, I, L, Nil, O, H, P, Never}
 
 abbrev pub id_of : TypeId → Id
@@ -97,3 +98,58 @@ pub record Agrees (is_assignable : WorldType → WorldType → Bool) (fits : Cli
 -- the order of types by that of their spellings
 abbrev pub fits_by : (WorldType → WorldType → Bool) → CliType → CliType → Bool
 fits_by is_assignable a b = is_assignable (world.O (place_back a)) (world.O (place_back b))
+
+-- ---- types with every class renamed
+
+abbrev pub classes_by : (Id → Id) → Renaming
+classes_by f = record { type = f; method = λ m. m; field = λ g. g; place = λ m n. n }
+
+abbrev pub stack_type_to : Renaming → StackType → StackType
+stack_type_to r I = I
+stack_type_to r L = L
+stack_type_to r Nil = Nil
+stack_type_to r (O t) = O (type_to r t)
+stack_type_to r H = H
+stack_type_to r (P t) = P (type_to r t)
+stack_type_to r Never = Never
+
+-- ---- from rows from 0 to rows from 1
+
+abbrev pub id_up : Id → Id
+id_up c = record { file = c.file; row = suc c.row }
+
+abbrev pub type_up : CliType → CliType
+type_up t = type_to (classes_by id_up) t
+
+abbrev pub place_up : PlaceType → PlaceType
+place_up t = place_type_to (classes_by id_up) t
+
+abbrev pub stack_up : StackType → StackType
+stack_up t = stack_type_to (classes_by id_up) t
+
+-- ---- and back; row 0 is no row, and becomes one of a file that no world has (a world has at most 1002 files)
+
+abbrev pub row_down : ℕ → ℕ → Id
+row_down file zero = record { file = file + 65536; row = 0 }
+row_down file (suc row) = record { file = file; row = row }
+
+abbrev pub id_down : Id → Id
+id_down c = row_down c.file c.row
+
+abbrev pub type_down : CliType → CliType
+type_down t = type_to (classes_by id_down) t
+
+abbrev pub place_down : PlaceType → PlaceType
+place_down t = place_type_to (classes_by id_down) t
+
+abbrev pub stack_down : StackType → StackType
+stack_down t = stack_type_to (classes_by id_down) t
+
+-- ---- types of the world with rows from 0
+
+abbrev pub stack_in : WorldType → StackType
+stack_in t = stack_down (stack_of t)
+
+-- a stack, whose last type is the topmost one, from the topmost one down
+abbrev pub in_world : List WorldType → List StackType
+in_world ts = map stack_down (from_top ts)

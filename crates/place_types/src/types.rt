@@ -5,12 +5,10 @@ ghost use Rattle.std.specs.Option.{option_map};
 ghost use Rattle.machine.specs.Data.{cell_of};
 ghost use Rattle.machine.specs.Numbers.{is_long as is_wide};
 ghost use Rattle.machine_typed.specs.Typing.{loaded as loaded_as, is_plain as has_plain_type, is_number as has_number_type, array_of as is_array, of_type, number};
-ghost use Rattle.verify_ops.specs.Types.{base_type, no_type, type_of, place_of, stack_of, stack_or_never};
-ghost use Rattle.verify_ops.specs.Acts.{cell_by};
-ghost use Rattle.verify_ops.specs.Facts.{has_arrays, is_reference_type};
-ghost use Rattle.verify_ops.specs.Acts.{FoundSpelt, IsArrayOf, array_by, unheld_type};
+ghost use Rattle.place_types.specs.Types.{base_type, no_type, type_of, place_of, stack_of, stack_or_never};
+ghost use Rattle.place_types.specs.Held.{cell_by, has_arrays, is_reference_type, FoundSpelt, IsArrayOf, array_by, unheld_type};
 
-use crate::row::{ArrayOperand, Held};
+use crate::held::{ArrayOperand, Held};
 use cil_opcodes::shape::IntegerType;
 use ecma_types::stack::{PlaceType, StackType};
 use plain_types::elem::Elem;

@@ -9,7 +9,7 @@ use Rattle.ecma_types.specs.declared.stack.StackType.{StackType as WorldType}
 use Rattle.ecma_types.specs.declared.stack.StackType.TheVariants as world
 use Rattle.machine.specs.Data.{CliType, type_eq}
 use Rattle.machine_typed.proofs.Types.{type_same, type_here}
-use Rattle.verify_ops.specs.Types.{id_of, number_by, base_type, arrays, type_of, row_or_none, row_of_elem, spelt, place_back, Agrees, fits_by}
+use Rattle.place_types.specs.Types.{id_of, number_by, base_type, arrays, type_of, row_or_none, row_of_elem, spelt, place_back, Agrees, fits_by}
 
 number_back : (b : Bool) (e : Elem) (t : TypeId) → place_back (number_by b e (id_of t)) ≡ record { pointer = false; ranks = 0; elem = e; of = row_or_none b t }
 number_back true e t = refl

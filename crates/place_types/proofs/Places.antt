@@ -9,8 +9,8 @@ use Rattle.machine.specs.Data.{Id, CliType, Basic, ArrayOf, Cell, Bits, Refers, 
 use Rattle.cil_opcodes.specs.declared.shape.IntegerType.TheVariants.{I1, U1, I2, U2, I4, U4, I8, U8}
 use Rattle.machine_typed.specs.Typing.{O, is_plain, held, of_type, array_of}
 use Rattle.machine_typed.proofs.Types.{type_held}
-use Rattle.verify_ops.specs.Acts.{unheld_type}
-use Rattle.verify_ops.specs.Types.{id_of, number_by, base_type, arrays, type_of, no_type}
+use Rattle.place_types.specs.Held.{unheld_type}
+use Rattle.place_types.specs.Types.{id_of, number_by, base_type, arrays, type_of, no_type}
 
 cell_number : (b : Bool) (e : Elem) (c : Id) → cell_of (number_by b e c) ≡ elem_cell e
 cell_number true e c = refl

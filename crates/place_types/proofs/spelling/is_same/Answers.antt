@@ -1,9 +1,9 @@
 use Rattle.std.proofs.Common.{◌≡◌, ◌↔◌, subst}
 use Rattle.std.specs.Prelude.{IsTrue}
 use Rattle.ecma_types.specs.declared.stack.PlaceType.{PlaceType as WorldPlace}
-use Rattle.verify_ops.specs.Types.{spelt}
-use Rattle.verify_ops.proofs.Spellings.{same_spelling}
-use Rattle.verify_ops.proofs.spelling.is_same.Goals as goal
+use Rattle.place_types.specs.Types.{spelt}
+use Rattle.place_types.proofs.Spellings.{same_spelling}
+use Rattle.place_types.proofs.spelling.is_same.Goals as goal
 
 pub returns : goal.returns
 returns c =
