@@ -1,18 +1,16 @@
 -- The rows of the code as the machine's.
 use Rattle.std.specs.Prelude.{◌≡◌, ℕ, ℤ, Bool, true, false, ◌+◌, ◌-◌, ◌&&◌, ◌||◌, nat_lt, take, List, [], ◌∷◌, ◌++◌, map, length, Option, Some, None, Result, Ok, Err}
 use Rattle.std.specs.Option.{option_map}
-use Rattle.plain_types.specs.declared.elem.Elem.{Elem}
-use Rattle.plain_types.specs.declared.elem.Elem.TheVariants as elem
 use Rattle.ecma_types.specs.declared.stack.PlaceType.{PlaceType as WorldPlace}
 use Rattle.ecma_types.specs.declared.stack.StackType.{StackType as WorldType}
 use Rattle.cil_opcodes.specs.declared.shape.Access.{Access}
 use Rattle.cil_opcodes.specs.declared.shape.Shape.{Shape}
-use Rattle.machine.specs.Data.{CliType, PlaceType, Cell, Bits, Refers, ArrayOf}
+use Rattle.machine.specs.Data.{CliType, PlaceType}
 use Rattle.machine.specs.Program.{Program, Exact, Typed}
 use Rattle.machine.specs.Program.{Access as MemoryAccess}
 use Rattle.machine.specs.Numbers.{is_long}
 use Rattle.machine.specs.Throw.{on_some}
-use Rattle.machine_typed.specs.Typing.{StackType, I, O, P, H, Never, ArrayKind, NullArray, ArrayWith, number, loaded, is_plain, is_number, is_int, is_reference, is_condition, is_comparable, compares_references, branches_on_references, sort_of, binary_type, shift_type, unary_type, pointee, array_of, pointer_takes, accessed, array_takes, element_loaded, element_takes, assignable, all_assignable, when}
+use Rattle.machine_typed.specs.Typing.{StackType, I, O, P, number, loaded, is_plain, is_number, is_int, is_reference, is_condition, is_comparable, compares_references, branches_on_references, sort_of, binary_type, shift_type, unary_type, pointee, array_of, pointer_takes, accessed, array_takes, element_loaded, element_takes, assignable, all_assignable, when}
 use Rattle.classes.specs.Queries.{listed}
 use Rattle.class_rules.specs.Rules.{holds_some}
 use Rattle.code_rules.specs.Rows.{Row, Rest, Keeps, Drops, WantsNone, none, one, two, three, judged}
