@@ -11,7 +11,7 @@ mod supers;
 mod values;
 
 pub use entry::{entry_well, is_main};
-pub use library::{Library, find_library};
+pub use library::{Library, find_library, library_class};
 pub use members::{field_stands_well, method_stands_well};
 pub use places::{is_number_class, is_reference_class, is_user};
 pub use setting::Setting;
