@@ -11,19 +11,19 @@ use Rattle.cil_opcodes.specs.declared.table.TheConstants.{ONE_BYTE, TWO_BYTES}
 use Rattle.cil_opcodes.specs.Rows.{entry_of, row_of}
 
 -- what is behind the opcodes that go somewhere
-abbrev is_branch : Shape → Bool
+abbrev pub is_branch : Shape → Bool
 is_branch shapes.Branch = true
 is_branch (shapes.BranchIf on) = true
 is_branch (shapes.BranchCompare comparison on) = true
 is_branch shapes.Leave = true
 is_branch _ = false
 
-abbrev is_switch : Shape → Bool
+abbrev pub is_switch : Shape → Bool
 is_switch shapes.Switch = true
 is_switch _ = false
 
 -- an operand of a kind stands behind an opcode of a shape
-abbrev kind_stands : Operand → ℕ → Shape → Bool
+abbrev pub kind_stands : Operand → ℕ → Shape → Bool
 kind_stands kinds.Switch op shape = nat_eq op 69 && is_switch shape
 kind_stands kinds.BranchShort op shape = is_branch shape
 kind_stands kinds.BranchLong op shape = is_branch shape
@@ -37,7 +37,7 @@ abbrev all_stand : ℕ → List (Option Row) → Bool
 all_stand n [] = true
 all_stand n (row ∷ rows) = stands n row && all_stand (suc n) rows
 
-both : (a b : Bool) → (a && b) ≡ true → (a ≡ true) × (b ≡ true)
+pub both : (a b : Bool) → (a && b) ≡ true → (a ≡ true) × (b ≡ true)
 both true true e = (refl, refl)
 both true false e = absurd cc
 both false b e = absurd cc

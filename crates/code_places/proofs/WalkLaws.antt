@@ -81,7 +81,7 @@ end_there code at whole end e = sym (ap (end_from at) end.none) ∙ e
 abbrev pub astray_in : List ℕ → List Placed → Option ℕ
 astray_in code ps = option_map (λ (p : Placed). p.at) (find (λ p. not (goes_well code p)) ps)
 
-all_same : (f g : ℕ → Bool) → ((n : ℕ) → f n ≡ g n) → (ts : List ℕ) → list_all f ts ≡ list_all g ts
+pub all_same : (f g : ℕ → Bool) → ((n : ℕ) → f n ≡ g n) → (ts : List ℕ) → list_all f ts ≡ list_all g ts
 all_same f g h [] = refl
 all_same f g h (t ∷ ts) = ap (λ b. b && list_all f ts) (h t) ∙ ap (λ b. g t && b) (all_same f g h ts)
 
@@ -112,7 +112,7 @@ pub record Stand (code : List ℕ) (n : ℕ) : Type 0 where
   pub instr : Instr
   pub stands : instruction_at code n ≡ Ok instr
 
-abbrev then_walk : ℕ → List ℕ → ℕ → Instr → Walk
+abbrev pub then_walk : ℕ → List ℕ → ℕ → Instr → Walk
 then_walk most code at instr = walk_within most code (at + instr.length)
 
 met_stand : (most : ℕ) (code : List ℕ) (at n : ℕ) → is_among (map (λ (p : Placed). p.at) (walk_within most code at).met) n ≡ true → Stand code n
