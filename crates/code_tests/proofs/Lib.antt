@@ -1,0 +1,4 @@
+pub mod ShapeLaws
+pub mod LineLaws
+pub mod ClauseLaws
+pub mod TestLaws
