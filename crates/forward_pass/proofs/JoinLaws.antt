@@ -1,8 +1,8 @@
 -- Two stacks place by place, from the lowest place up.
-use Rattle.std.proofs.Common.{◌≡◌, ℕ, suc, ◌+◌, ◌-◌, ◌<◌, Bool, true, false, List, [], ◌∷◌, ◌++◌, length, get_or, take, drop, map, Option, Some, None, Result, Ok, Err, refl, sym, ap, ◌∙◌, arith}
+use Rattle.std.proofs.Common.{◌≡◌, ℕ, suc, ◌+◌, ◌-◌, ◌<◌, Bool, true, false, List, [], ◌∷◌, ◌++◌, length, get_or, take, drop, map, Option, Some, None, Ok, Err, refl, sym, ap, ◌∙◌, arith}
 use Rattle.std.specs.Prelude.{reverse}
 use Rattle.std.specs.Option.{option_map}
-use Rattle.std.proofs.lemmas.List.{map_more, map-append, reverse-append, length-reverse, length-map, length-take, length-drop, take-append-drop}
+use Rattle.std.proofs.lemmas.List.{map_more, map-append, reverse-append, length-reverse, length-map, length-drop, take-append-drop}
 use Rattle.ecma_types.specs.declared.stack.StackType.{StackType as WorldType}
 use Rattle.machine_typed.specs.Typing.{StackType}
 use Rattle.code_rules.specs.Pass.{Lattice, cons_merged, if_fits, merge_all, fit_all}

@@ -1,6 +1,5 @@
 -- How the pass goes on from one instruction to the next.
-use Rattle.std.proofs.Common.{◌≡◌, ℕ, ◌<◌, ◌≤◌, Bool, true, false, cond, List, [], ◌∷◌, ◌++◌, length, Option, Some, None, Result, Ok, Err, refl, sym, ap, ◌∙◌, arith, subst, append_assoc}
-use Rattle.std.specs.Prelude.{nat_eq, nat_le}
+use Rattle.std.proofs.Common.{◌≡◌, ℕ, ◌<◌, ◌≤◌, Bool, cond, List, [], ◌∷◌, ◌++◌, Option, Some, None, Result, Ok, Err, refl, sym, ap, ◌∙◌, arith, subst, append_assoc}
 use Rattle.std.specs.Ordering.{nat_cmp}
 use Rattle.std.specs.Global.{Vec}
 use Rattle.std.specs.BTreeMap.{BTreeMap, is_at}
@@ -8,11 +7,10 @@ use Rattle.std.specs.Map.{lookup}
 use Rattle.std.proofs.lemmas.Bool.{eq-eqb, ne_eqb}
 use Rattle.ecma_types.specs.declared.stack.StackType.{StackType as WorldType}
 use Rattle.machine_typed.specs.Typing.{StackType}
-use Rattle.code_rules.specs.Pass.{Lattice, Step, Entry, After, if_sound, visit, pass}
+use Rattle.code_rules.specs.Pass.{Lattice, Step, Entry, if_sound, visit, pass}
 use Rattle.verdict_rules.specs.Code.{lowest}
 use Rattle.forward_pass.specs.declared.steps.StepFacts.{StepFacts}
-use Rattle.forward_pass.specs.declared.code.Broken.{Broken}
-use Rattle.forward_pass.specs.Seen.{Agrees, Keeps, LieFrom, is_needed, is_target, kept_at, step_at, seen_stack, seen_falling}
+use Rattle.forward_pass.specs.Seen.{Agrees, Keeps, LieFrom, is_needed, is_target, step_at, seen_stack, seen_falling}
 use Rattle.forward_pass.specs.Told.{lowest_of, Tells, Behind}
 use Rattle.forward_pass.specs.Answer.{told}
 

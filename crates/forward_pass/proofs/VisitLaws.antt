@@ -1,5 +1,5 @@
 -- What holds behind an instruction.
-use Rattle.std.proofs.Common.{◌≡◌, ℕ, ◌≤◌, Bool, true, false, cond, List, [], ◌∷◌, ◌++◌, length, Option, Some, None, Result, Ok, Err, refl, sym, ap, ◌∙◌, arith, subst}
+use Rattle.std.proofs.Common.{◌≡◌, ℕ, ◌≤◌, Bool, true, false, cond, List, [], ◌∷◌, ◌++◌, Option, Some, None, Result, Ok, Err, refl, sym, ap, ◌∙◌, arith, subst}
 use Rattle.std.specs.Prelude.{nat_eq, nat_le, ◌||◌, is_some}
 use Rattle.std.specs.Borrow.{Bor}
 use Rattle.std.specs.Ordering.{nat_cmp}
@@ -10,7 +10,7 @@ use Rattle.std.specs.BTreeMap.{BTreeMap, get}
 use Rattle.std.proofs.lemmas.Bool.{eqb-true, eq-eqb, le-leb, or_left, or_right}
 use Rattle.ecma_types.specs.declared.stack.StackType.{StackType as WorldType}
 use Rattle.machine_typed.specs.Typing.{StackType}
-use Rattle.code_rules.specs.Pass.{Lattice, Step, Entry, After, put, standing, edges, incoming, acted, met, visit, fallen, not_empty, falls_with}
+use Rattle.code_rules.specs.Pass.{Lattice, Step, Entry, After, put, standing, edges, incoming, acted, met, visit, fallen, not_empty}
 use Rattle.forward_pass.specs.declared.steps.StepFacts.{StepFacts}
 use Rattle.forward_pass.specs.Seen.{AllNeeded, Keeps, is_needed, is_target, step_at, seen_stack, seen_falling, seen_there, seen_types}
 use Rattle.forward_pass.specs.Told.{lowest_of, lower_of, Leaves, Goes, Behind, Tells, begun, left_behind}
