@@ -5,3 +5,4 @@ pub mod Operands
 pub mod Members
 pub mod Shapes
 pub mod Whole
+pub mod Told

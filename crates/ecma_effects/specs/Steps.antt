@@ -1,5 +1,5 @@
 -- What the step of the verdict's pass makes of the types on the stack, or the lowest rule that it breaks.
-use Rattle.std.specs.Prelude.{◌≡◌, ℕ, Bool, ◌++◌, List, [], ◌∷◌, map, Option, Result, Ok, Err}
+use Rattle.std.specs.Prelude.{true, ◌≡◌, ℕ, Bool, ◌++◌, List, [], ◌∷◌, map, Option, Result, Ok, Err}
 use Rattle.cil_opcodes.specs.declared.shape.Shape.{Shape}
 use Rattle.machine.specs.Data.{CliType}
 use Rattle.machine.specs.Program.{Method, Instruction}
@@ -8,7 +8,8 @@ use Rattle.classes.specs.Code.{Operand, Sources}
 use Rattle.classes.specs.Listed.{program_of}
 use Rattle.classes.specs.Queries.{fits}
 use Rattle.code_rules.specs.Verdict.{operand_fits, numbered, unless, act_of}
-use Rattle.place_types.specs.Types.{type_up, stack_up}
+use Rattle.ecma_types.specs.declared.stack.StackType.{StackType as WorldType}
+use Rattle.place_types.specs.Types.{type_up, stack_up, from_top, in_world}
 use Rattle.verify_ops.specs.Effects.{lowest, lowest_of}
 
 -- the order of types with rows from 1 is the world's
@@ -30,3 +31,22 @@ step_effect x exception m s o i ts =
 abbrev pub effect_up : Result (List StackType) ℕ → Result (List StackType) ℕ
 effect_up (Ok us) = Ok (map stack_up us)
 effect_up (Err rule) = Err rule
+
+-- all that the step breaks by itself from 46 on: its operand's rule, its number's, its stack's
+abbrev pub rules_of : Result (List StackType) (List ℕ) → List ℕ
+rules_of (Ok us) = []
+rules_of (Err rules) = rules
+
+abbrev pub step_rules : Sources → CliType → Method → Shape → Operand → Option Instruction → List StackType → List ℕ
+step_rules x exception m s o i ts =
+    unless (operand_fits x.classes s o) 46 ++ (unless (numbered m i) 47 ++ rules_of (act_of (program_of x) exception m i ts))
+
+-- the step breaks none of them, and leaves these types
+pub record StepLeaves (x : Sources) (exception : CliType) (m : Method) (s : Shape) (o : Operand) (i : Option Instruction) (ts us : List StackType) : Type 0 where
+  pub operand : operand_fits x.classes s o ≡ true
+  pub number : numbered m i ≡ true
+  pub acts : act_of (program_of x) exception m i ts ≡ Ok us
+
+-- the types have rows, so that they are told from those with rows from 0
+abbrev pub HasRows : List WorldType → Type 0
+HasRows ts = map stack_up (in_world ts) ≡ from_top ts
