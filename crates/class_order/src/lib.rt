@@ -10,5 +10,5 @@ mod types;
 
 pub use basic::{BasicClasses, find_basic};
 pub use chains::common_superclass;
-pub use order::{Order, is_or_implements};
+pub use order::{Order, is_or_implements, order_of};
 pub use types::{BaseType, array_fits, class_of, fits, is_same, type_of_class};

@@ -1,14 +1,16 @@
 //! Which class is the other one, stands below it or implements it.
 
-ghost use Rattle.std.specs.Prelude.{◌≡◌, IfOk};
+ghost use Rattle.std.specs.Prelude.{◌≡◌, ◌<◌, ◌^◌, IfOk};
 ghost use Rattle.std.specs.List.{list_any};
 ghost use Rattle.machine.specs.Data.{id_eq};
 ghost use Rattle.classes.specs.Queries.{is_or_implements};
 ghost use Rattle.member_keys.specs.Seen.{class_seen};
 ghost use Rattle.class_table.specs.Seen.{classes_seen};
+ghost use Rattle.class_queries.specs.Numbers.{total_of};
 ghost use Rattle.class_order.specs.Order.{InOrder};
+ghost use Rattle.class_order.specs.Types.{AreOrdered};
 
-use crate::basic::BasicClasses;
+use crate::basic::{BasicClasses, find_basic};
 use crate::chains::is_same;
 use class_checks::is_sub;
 use class_queries::is_interface;
@@ -23,6 +25,19 @@ use std::alloc::Global;
 pub struct Order<'t, 'a> {
     pub table: &'t ClassTable<'a>,
     pub basic: BasicClasses,
+}
+
+/// The order of a table of fewer than 2^32 classes, whose chains of superclasses end.
+pub fn order_of<'t, 'a>(table: &'t ClassTable<'a>) -> Order<'t, 'a>
+    requires few { total_of table.now < 2 ^ 32 }
+    requires order { InOrder (classes_seen table.now) }
+    ensures table { result.table.now ≡ table.now }
+    ensures ordered { AreOrdered result }
+{
+    Order {
+        table,
+        basic: find_basic(table),
+    }
 }
 
 /// Whether a class is among some.
