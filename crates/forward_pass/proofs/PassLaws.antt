@@ -1,5 +1,5 @@
 -- How the pass goes on from one instruction to the next.
-use Rattle.std.proofs.Common.{◌≡◌, ℕ, ◌<◌, ◌≤◌, Bool, cond, List, [], ◌∷◌, ◌++◌, Option, Some, None, Result, Ok, Err, refl, sym, ap, ◌∙◌, arith, subst, append_assoc}
+use Rattle.std.proofs.Common.{◌≡◌, ℕ, ◌<◌, ◌≤◌, Bool, cond, List, [], ◌∷◌, ◌++◌, Option, Some, None, Result, Ok, Err, refl, sym, ap, ◌∙◌, arith, subst, append_assoc, true, false, nat_eq}
 use Rattle.std.specs.Ordering.{nat_cmp}
 use Rattle.std.specs.Global.{Vec}
 use Rattle.std.specs.BTreeMap.{BTreeMap, is_at}
@@ -11,7 +11,7 @@ use Rattle.code_rules.specs.Pass.{Lattice, Step, Entry, if_sound, visit, pass}
 use Rattle.verdict_rules.specs.Code.{lowest}
 use Rattle.forward_pass.specs.declared.steps.StepFacts.{StepFacts}
 use Rattle.forward_pass.specs.Seen.{Agrees, Keeps, LieFrom, is_needed, is_target, step_at, seen_stack, seen_falling}
-use Rattle.forward_pass.specs.Told.{lowest_of, Tells, Behind}
+use Rattle.forward_pass.specs.Told.{lowest_of, Tells, Behind, IsRanked, AreRanked}
 use Rattle.forward_pass.specs.Answer.{told}
 
 -- ---- instructions behind one another
@@ -33,6 +33,14 @@ find_next (x ∷ xs) steps s at h here =
 lies_up : (steps : List Step) (at size : ℕ) → LieFrom steps at size → at ≤ size
 lies_up [] at size h = omega (arith, h)
 lies_up (s ∷ steps) at size h = omega (arith, h.1, h.0, lies_up steps s.next size h.2)
+
+ranked_by : (b : Bool) (x s : Step) (rest : Option Step) → cond b (Some x) rest ≡ Some s → IsRanked x → (rest ≡ Some s → IsRanked s) → IsRanked s
+ranked_by true x s rest e h more = let is : x ≡ s = cc e in subst IsRanked is h
+ranked_by false x s rest e h more = more e
+
+ranked_at : (steps : List Step) (at : ℕ) (s : Step) → AreRanked steps → step_at steps at ≡ Some s → IsRanked s
+ranked_at [] at s h e = cc e
+ranked_at (x ∷ xs) at s h e = ranked_by (nat_eq x.at at) x s (step_at xs at) e h.0 (ranked_at xs at s h.1)
 
 -- ---- where the pass is
 
@@ -87,7 +95,7 @@ module _ (steps : List Step) (seen : WorldType → StackType) (assignable : Worl
   -- what is said of the visit of the instruction at an offset
   abbrev pub Visits : BTreeMap ℕ (Vec WorldType) → Option (Vec WorldType) → ℕ → StepFacts → BTreeMap ℕ (Vec WorldType) → Result (Option (Vec WorldType)) ℕ → Type 0
   Visits table falling at facts table' after =
-      (s : Step) (l : Lattice) (entries : List Entry) → step_at steps at ≡ Some s → at < s.next → Tells seen s (is_target steps at) facts → Agrees seen assignable merged l → Keeps seen (is_needed steps at) table entries → Behind seen (is_needed steps s.next) table' after (visit l s entries (seen_falling seen falling))
+      (s : Step) (l : Lattice) (entries : List Entry) → step_at steps at ≡ Some s → IsRanked s → at < s.next → Tells seen s (is_target steps at) facts → Agrees seen assignable merged l → Keeps seen (is_needed steps at) table entries → Behind seen (is_needed steps s.next) table' after (visit l s entries (seen_falling seen falling))
 
   abbrev pub Knows : ℕ → StepFacts → Type 0
   Knows at facts = (s : Step) → step_at steps at ≡ Some s → Tells seen s (is_target steps at) facts
@@ -99,8 +107,8 @@ module _ (steps : List Step) (seen : WorldType → StackType) (assignable : Worl
     pub goes_up : at < size → (facts : StepFacts) → Knows at facts → at < facts.next
     goes_up more facts knows = let n = next_step more in omega (arith, n.up, (knows n.step n.found).next)
 
-    pub walk_on : at < size → (facts : StepFacts) → Knows at facts → (table' : BTreeMap ℕ (Vec WorldType)) (falling' : Option (Vec WorldType)) → Visits table falling at facts table' (Ok falling') → Walks steps seen assignable merged table' falling' facts.next size
-    walk_on more facts knows table' falling' visits =
+    pub walk_on : AreRanked steps → at < size → (facts : StepFacts) → Knows at facts → (table' : BTreeMap ℕ (Vec WorldType)) (falling' : Option (Vec WorldType)) → Visits table falling at facts table' (Ok falling') → Walks steps seen assignable merged table' falling' facts.next size
+    walk_on ranked more facts knows table' falling' visits =
         let n = next_step more in
         let tells = knows n.step n.found in
         subst (λ k. Walks steps seen assignable merged table' falling' k size) (sym tells.next) (record {
@@ -111,7 +119,7 @@ module _ (steps : List Step) (seen : WorldType → StackType) (assignable : Worl
           lies = n.lies;
           goes = λ l agrees.
               let was = w.goes l agrees in
-              let after = visits n.step l was.entries n.found n.up tells agrees was.keeps in
+              let after = visits n.step l was.entries n.found (ranked_at steps at n.step ranked n.found) n.up tells agrees was.keeps in
               let a = visit l n.step was.entries (seen_falling seen falling) in
               record {
                 entries = a.table;
@@ -123,11 +131,11 @@ module _ (steps : List Step) (seen : WorldType → StackType) (assignable : Worl
               };
         })
 
-    pub breaks : at < size → (facts : StepFacts) → Knows at facts → (table' : BTreeMap ℕ (Vec WorldType)) (rule : ℕ) → Visits table falling at facts table' (Err rule) → (l : Lattice) → Agrees seen assignable merged l → Some (record { offset = at; rule = rule }) ≡ told (pass l steps [] (Some []))
-    breaks more facts knows table' rule visits l agrees =
+    pub breaks : AreRanked steps → at < size → (facts : StepFacts) → Knows at facts → (table' : BTreeMap ℕ (Vec WorldType)) (rule : ℕ) → Visits table falling at facts table' (Err rule) → (l : Lattice) → Agrees seen assignable merged l → Some (record { offset = at; rule = rule }) ≡ told (pass l steps [] (Some []))
+    breaks ranked more facts knows table' rule visits l agrees =
         let n = next_step more in
         let was = w.goes l agrees in
-        let after = visits n.step l was.entries n.found n.up (knows n.step n.found) agrees was.keeps in
+        let after = visits n.step l was.entries n.found (ranked_at steps at n.step ranked n.found) n.up (knows n.step n.found) agrees was.keeps in
         let a = visit l n.step was.entries (seen_falling seen falling) in
         sym (ap told was.same
         ∙ ap (λ xs. told (pass l xs was.entries (seen_falling seen falling))) n.is

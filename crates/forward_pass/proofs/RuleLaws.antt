@@ -8,7 +8,7 @@ lowest_bound : (xs : List ℕ) → lowest xs ≤ 54
 lowest_bound [] = omega arith
 lowest_bound (x ∷ xs) = omega (arith, lowest_bound xs)
 
-lowest_append : (xs ys : List ℕ) → lowest (xs ++ ys) ≡ min (lowest xs) (lowest ys)
+pub lowest_append : (xs ys : List ℕ) → lowest (xs ++ ys) ≡ min (lowest xs) (lowest ys)
 lowest_append [] ys = omega (arith, lowest_bound ys)
 lowest_append (x ∷ xs) ys = omega (arith, lowest_append xs ys)
 
@@ -27,3 +27,8 @@ lowest_of_three xs ys zs =
 pub none_lowest : (xs : List ℕ) → lowest_of xs ≡ None → xs ≡ []
 none_lowest [] e = refl
 none_lowest (x ∷ xs) e = cc e
+
+-- a rule counts that is not above the others
+pub first_counts : (rule : ℕ) (xs : List ℕ) → rule ≤ lowest xs → lower_of (Some rule) (lowest_of xs) ≡ Some rule
+first_counts rule [] h = refl
+first_counts rule (x ∷ xs) h = ap (λ n. Some n) (omega (arith, h))

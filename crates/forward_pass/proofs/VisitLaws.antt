@@ -11,11 +11,12 @@ use Rattle.std.proofs.lemmas.Bool.{eqb-true, eq-eqb, le-leb, or_left, or_right}
 use Rattle.ecma_types.specs.declared.stack.StackType.{StackType as WorldType}
 use Rattle.machine_typed.specs.Typing.{StackType}
 use Rattle.code_rules.specs.Pass.{Lattice, Step, Entry, After, put, standing, edges, incoming, acted, met, visit, fallen, not_empty}
+use Rattle.verdict_rules.specs.Code.{lowest}
 use Rattle.forward_pass.specs.declared.steps.StepFacts.{StepFacts}
 use Rattle.forward_pass.specs.Seen.{AllNeeded, Keeps, is_needed, is_target, step_at, seen_stack, seen_falling, seen_there, seen_types}
-use Rattle.forward_pass.specs.Told.{lowest_of, lower_of, Leaves, Goes, Behind, Tells, begun, left_behind}
-use Rattle.forward_pass.proofs.RuleLaws.{lowest_of_append, lowest_of_three, none_lowest}
-use Rattle.forward_pass.proofs.EdgeLaws.{one_rule, there_seen, FailsSo, merge_rules}
+use Rattle.forward_pass.specs.Told.{lowest_of, lower_of, Leaves, Goes, Behind, IsRanked, Tells, begun, left_behind}
+use Rattle.forward_pass.proofs.RuleLaws.{first_counts, lowest_append, lowest_of_append, lowest_of_three, none_lowest}
+use Rattle.forward_pass.proofs.EdgeLaws.{edges_high, one_rule, there_seen, FailsSo, merge_rules}
 
 -- ---- the instruction at an offset
 
@@ -56,6 +57,10 @@ pub lower_none : (a b : Option ℕ) → lower_of a b ≡ None → (a ≡ None) �
 lower_none None b e = (refl, e)
 lower_none (Some a) None e = cc e
 lower_none (Some a) (Some b) e = cc e
+
+lower_nothing : (o : Option ℕ) → lower_of o None ≡ o
+lower_nothing None = refl
+lower_nothing (Some rule) = refl
 
 lower_same : (a b a' b' : Option ℕ) → a ≡ a' → b ≡ b' → lower_of a b ≡ lower_of a' b'
 lower_same a b a' b' e f = ap (λ o. lower_of o b) e ∙ ap (lower_of a') f
@@ -98,11 +103,42 @@ module _ (l : Lattice) (seen : WorldType → StackType) (needed : ℕ → Bool) 
 
   pub visit_fails : (falling : Option (List StackType)) (before : Option ℕ) (rule lowest : ℕ) → before ≡ lower_of (lowest_of (fallen s falling)) (lowest_of s.broken) → Err rule ≡ incoming l s.begins (standing entries s.at) falling → lower_of before (Some rule) ≡ Some lowest → Behind seen needed table (Err lowest) (visit l s entries falling)
   visit_fails falling before rule lowest e came is =
-      let small : rule ≤ 54 = subst FailsSo (sym came) (arrive_rules l s.begins (standing entries s.at) falling) in
+      let so : (52 ≤ rule) × (rule ≤ 54) = subst FailsSo (sym came) (arrive_rules l s.begins (standing entries s.at) falling) in
       ap (λ r. lowest_of (fallen s falling ++ (s.broken ++ (met l s entries r).broken))) (sym came)
       ∙ lowest_of_three (fallen s falling) s.broken (rule ∷ [])
-      ∙ lower_same _ _ _ _ (sym e) (sym (one_rule rule small))
+      ∙ lower_same _ _ _ _ (sym e) (sym (one_rule rule so.1))
       ∙ is
+
+-- ---- an instruction that breaks something whatever lies on the stack
+
+not_empty_high : (tries : Bool) (ts : List StackType) → 52 ≤ lowest (not_empty tries ts)
+not_empty_high true [] = omega arith
+not_empty_high true (t ∷ ts) = omega arith
+not_empty_high false [] = omega arith
+not_empty_high false (t ∷ ts) = omega arith
+
+module _ (l : Lattice) (s : Step) (rule : ℕ) (low : rule ≤ 52) where
+  acted_above : (entries : List Entry) (r : Result (List StackType) (List ℕ)) → ((rules : List ℕ) → r ≡ Err rules → rule ≤ lowest rules) → rule ≤ lowest (acted l s entries r).broken
+  acted_above entries (Ok us) h = omega (arith, low, edges_high l s.at us s.goes entries)
+  acted_above entries (Err rules) h = h rules refl
+
+  met_above : (entries : List Entry) (r : Result (List StackType) ℕ) → ((types : List StackType) (rules : List ℕ) → s.act types ≡ Err rules → rule ≤ lowest rules) → FailsSo r → rule ≤ lowest (met l s entries r).broken
+  met_above entries (Err other) acts so = omega (arith, low, so.0)
+  met_above entries (Ok ts) acts so =
+      omega (arith, low, lowest_append (not_empty s.tries ts) (acted l s (put s.at ts entries) (s.act ts)).broken, not_empty_high s.tries ts, acted_above (put s.at ts entries) (s.act ts) (acts ts))
+
+pub visit_breaks : (l : Lattice) (seen : WorldType → StackType) (needed : ℕ → Bool) (s : Step) (entries : List Entry) (table : BTreeMap ℕ (Vec WorldType)) (falling : Option (List StackType)) (fell : Option ℕ) (rule lowest : ℕ) → IsRanked s → lowest_of s.broken ≡ Some rule → fell ≡ lowest_of (fallen s falling) → lower_of fell (Some rule) ≡ Some lowest → Behind seen needed table (Err lowest) (visit l s entries falling)
+visit_breaks l seen needed s entries table falling fell rule lowest ranked broken e is =
+    let came = incoming l s.begins (standing entries s.at) falling in
+    let rank = ranked rule broken in
+    let others = (met l s entries came).broken in
+    lowest_of_append (fallen s falling) (s.broken ++ others)
+    ∙ ap (lower_of (lowest_of (fallen s falling)))
+    (lowest_of_append s.broken others
+    ∙ ap (λ o. lower_of o (lowest_of others)) broken
+    ∙ first_counts rule others (met_above l s rule rank.0 entries came rank.1 (arrive_rules l s.begins (standing entries s.at) falling)))
+    ∙ ap (λ o. lower_of o (Some rule)) (sym e)
+    ∙ is
 
 -- ---- what comes to an instruction
 
@@ -111,8 +147,11 @@ falls_seen seen None = refl
 falls_seen seen (Some types) = refl
 
 module _ (seen : WorldType → StackType) (steps : List Step) (s : Step) (at : ℕ) (facts : StepFacts) (tells : Tells seen s (is_target steps at) facts) (falling : Option (Vec WorldType)) where
-  pub before_is : (falls : Bool) (fell before : Option ℕ) → falls ≡ is_some falling → ((s : Step) (falling : Option (List StackType)) → falls ≡ is_some falling → facts.falls_well ≡ s.falls_well → fell ≡ lowest_of (fallen s falling)) → before ≡ lower_of fell facts.broken → before ≡ lower_of (lowest_of (fallen s (seen_falling seen falling))) (lowest_of s.broken)
-  before_is falls fell before e says is = is ∙ lower_same fell facts.broken _ _ (says s (seen_falling seen falling) (e ∙ falls_seen seen falling) tells.falls_well) tells.broken
+  pub fell_is : (falls : Bool) (fell : Option ℕ) → falls ≡ is_some falling → ((s : Step) (falling : Option (List StackType)) → falls ≡ is_some falling → facts.falls_well ≡ s.falls_well → fell ≡ lowest_of (fallen s falling)) → fell ≡ lowest_of (fallen s (seen_falling seen falling))
+  fell_is falls fell e says = says s (seen_falling seen falling) (e ∙ falls_seen seen falling) tells.falls_well
+
+  pub before_is : (fell : Option ℕ) → fell ≡ lowest_of (fallen s (seen_falling seen falling)) → s.broken ≡ [] → fell ≡ lower_of (lowest_of (fallen s (seen_falling seen falling))) (lowest_of s.broken)
+  before_is fell is clean = is ∙ sym (lower_nothing (lowest_of (fallen s (seen_falling seen falling)))) ∙ ap (λ rules. lower_of (lowest_of (fallen s (seen_falling seen falling))) (lowest_of rules)) (sym clean)
 
   pub arrives : (l : Lattice) (entries : List Entry) (table : BTreeMap ℕ (Vec WorldType)) (there : Option (Bor (Vec WorldType))) (types : Result (Vec WorldType) ℕ) → step_at steps at ≡ Some s → Keeps seen (is_needed steps at) table entries → option_copied there ≡ get nat_cmp table at → seen_types seen types ≡ incoming l (begun seen facts.begins) (seen_there seen there) (seen_falling seen falling) → seen_types seen types ≡ incoming l s.begins (standing entries s.at) (seen_falling seen falling)
   arrives l entries table there types found keeps got is =

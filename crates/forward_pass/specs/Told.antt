@@ -1,5 +1,5 @@
 -- What is told of instructions, and of what they break.
-use Rattle.std.specs.Prelude.{◌≡◌, ℕ, min, Bool, true, false, List, [], ◌∷◌, Option, Some, None, Result, Ok, Err, length}
+use Rattle.std.specs.Prelude.{◌≡◌, ℕ, ◌≤◌, min, Bool, true, false, List, [], ◌∷◌, Option, Some, None, Result, Ok, Err, length}
 use Rattle.std.specs.Global.{Vec}
 use Rattle.std.specs.BTreeMap.{BTreeMap}
 use Rattle.ecma_types.specs.declared.stack.StackType.{StackType as WorldType}
@@ -42,6 +42,14 @@ pub record Tells (seen : WorldType → StackType) (s : Step) (is_targeted : Bool
 abbrev pub Acts : (WorldType → StackType) → Step → List WorldType → List WorldType → Option ℕ → Type 0
 Acts seen s old new None = s.act (seen_stack seen old) ≡ Ok (seen_stack seen new)
 Acts seen s old new (Some rule) = (rules : List ℕ) × (s.act (seen_stack seen old) ≡ Err rules) × (lowest_of rules ≡ Some rule)
+
+-- what an instruction breaks whatever lies on the stack is lower than what it breaks with the types there, and than 52 to 54
+abbrev pub IsRanked : Step → Type 0
+IsRanked s = (rule : ℕ) → lowest_of s.broken ≡ Some rule → (rule ≤ 52) × ((types : List StackType) (rules : List ℕ) → s.act types ≡ Err rules → rule ≤ lowest rules)
+
+abbrev pub AreRanked : List Step → Type 0
+AreRanked [] = Unit
+AreRanked (s ∷ steps) = IsRanked s × AreRanked steps
 
 -- the table behind edges, and the lowest rule that they break
 abbrev pub Leaves : (WorldType → StackType) → (ℕ → Bool) → BTreeMap ℕ (Vec WorldType) → Option ℕ → List ℕ × List Entry → Type 0

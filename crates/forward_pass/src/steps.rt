@@ -1,6 +1,6 @@
 //! What the pass asks of a method's instructions.
 
-ghost use Rattle.std.specs.Prelude.{◌≡◌, ◌<◌, ℕ, List, IfOk, Some, length, slice_get};
+ghost use Rattle.std.specs.Prelude.{◌≡◌, ◌<◌, ℕ, List, [], IfOk, Some, length, slice_get};
 ghost use Rattle.ecma_types.specs.declared.stack.StackType.{StackType as WorldType};
 ghost use Rattle.machine_typed.specs.Typing.{StackType as MachineType};
 ghost use Rattle.code_rules.specs.Pass.{Step};
@@ -31,7 +31,7 @@ pub struct StepFacts {
     pub begins: Begins,
     /// A try begins there.
     pub tries: bool,
-    /// The lowest of rules 45, 46, 47 and 51 that it breaks by itself.
+    /// The lowest of rules 45 (a transfer), 46 (the operand's token) and 47 (the number of an argument or local) that it breaks.
     pub broken: Option<u8>,
     /// How many targets its branches have.
     pub branches: usize,
@@ -60,12 +60,13 @@ pub trait Steps {
         ensures { (s : Step) → step_at (steps self.now) at ≡ Some s → branch < length s.goes → slice_get s.goes branch ≡ Some result };
 
     /// Makes the stack, whose last type is the topmost one, what the instruction at an offset leaves there; `Some` is the
-    /// lowest rule that the instruction breaks by itself, and nothing is said of the stack then.
+    /// lowest rule that it breaks with these types, and nothing is said of the stack then. It is asked only of instructions
+    /// that break nothing whatever lies on the stack.
     fn act(
         &self,
         alloc: Global,
         at: u32,
         stack: &mut Vec<StackType>,
     ) -> Result<Option<u8>, NoMemory>
-        ensures { IfOk result (λ broken. (s : Step) → step_at (steps self.now) at ≡ Some s → Acts (seen self.now) s stack.old.items stack.new.items broken) };
+        ensures { IfOk result (λ broken. (s : Step) → step_at (steps self.now) at ≡ Some s → s.broken ≡ [] → Acts (seen self.now) s stack.old.items stack.new.items broken) };
 }

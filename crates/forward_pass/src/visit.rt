@@ -1,11 +1,11 @@
 //! What the pass does at an instruction.
 
-ghost use Rattle.std.specs.Prelude.{◌≡◌, ◌<◌, ℕ, true, List, Option, None, Some, Ok, IfOk, OnOk, is_some};
+ghost use Rattle.std.specs.Prelude.{◌≡◌, ◌<◌, ℕ, true, List, [], Option, None, Some, Ok, IfOk, OnOk, is_some};
 ghost use Rattle.ecma_types.specs.declared.stack.StackType.{StackType as WorldType};
 ghost use Rattle.machine_typed.specs.Typing.{StackType as MachineType};
 ghost use Rattle.code_rules.specs.Pass.{Entry, Lattice as MachineLattice, Step, acted as acted_of, fallen as fallen_of, incoming as incoming_of, met as met_of, not_empty as not_empty_of, put, visit as visit_of};
 ghost use Rattle.forward_pass.specs.Seen.{Agrees, Keeps, is_needed, is_target, seen_falling, seen_stack, seen_there, seen_types, step_at};
-ghost use Rattle.forward_pass.specs.Told.{Goes, Tells, Behind, begun, lowest_of, left_behind};
+ghost use Rattle.forward_pass.specs.Told.{Behind, Goes, IsRanked, Tells, begun, left_behind, lowest_of};
 
 use crate::edges::{Table, edges};
 use crate::join::{copied, merged};
@@ -107,7 +107,7 @@ fn acted<S: Steps, L: Lattice>(
     steps: &S,
     lattice: &L,
 ) -> Result<Option<u8>, NoMemory>
-    ensures { IfOk result (λ rule. (s : Step) (l : MachineLattice) (entries : List Entry) → step_at (S.steps steps.now) at ≡ Some s → Tells (S.seen steps.now) s (is_target (S.steps steps.now) at) facts.now → Agrees (S.seen steps.now) (L.is_assignable lattice.now) (L.merged lattice.now) l → Keeps (S.seen steps.now) (is_needed (S.steps steps.now) s.next) table.old entries → Goes (S.seen steps.now) (is_needed (S.steps steps.now) s.next) s table.new stack.new.items rule (acted_of l s entries (s.act (seen_stack (S.seen steps.now) stack.old.items)))) }
+    ensures { IfOk result (λ rule. (s : Step) (l : MachineLattice) (entries : List Entry) → step_at (S.steps steps.now) at ≡ Some s → s.broken ≡ [] → Tells (S.seen steps.now) s (is_target (S.steps steps.now) at) facts.now → Agrees (S.seen steps.now) (L.is_assignable lattice.now) (L.merged lattice.now) l → Keeps (S.seen steps.now) (is_needed (S.steps steps.now) s.next) table.old entries → Goes (S.seen steps.now) (is_needed (S.steps steps.now) s.next) s table.new stack.new.items rule (acted_of l s entries (s.act (seen_stack (S.seen steps.now) stack.old.items)))) }
 {
     match steps.act(alloc, at, stack)? {
         Some(rule) => Ok(Some(rule)),
@@ -125,7 +125,7 @@ fn met<S: Steps, L: Lattice>(
     steps: &S,
     lattice: &L,
 ) -> Result<Option<u8>, NoMemory>
-    ensures { IfOk result (λ rule. (s : Step) (l : MachineLattice) (entries : List Entry) → step_at (S.steps steps.now) at ≡ Some s → at < s.next → Tells (S.seen steps.now) s (is_target (S.steps steps.now) at) facts.now → Agrees (S.seen steps.now) (L.is_assignable lattice.now) (L.merged lattice.now) l → Keeps (S.seen steps.now) (is_needed (S.steps steps.now) at) table.old entries → Goes (S.seen steps.now) (is_needed (S.steps steps.now) s.next) s table.new stack.new.items rule (met_of l s entries (Ok (seen_stack (S.seen steps.now) stack.old.items)))) }
+    ensures { IfOk result (λ rule. (s : Step) (l : MachineLattice) (entries : List Entry) → step_at (S.steps steps.now) at ≡ Some s → s.broken ≡ [] → at < s.next → Tells (S.seen steps.now) s (is_target (S.steps steps.now) at) facts.now → Agrees (S.seen steps.now) (L.is_assignable lattice.now) (L.merged lattice.now) l → Keeps (S.seen steps.now) (is_needed (S.steps steps.now) at) table.old entries → Goes (S.seen steps.now) (is_needed (S.steps steps.now) s.next) s table.new stack.new.items rule (met_of l s entries (Ok (seen_stack (S.seen steps.now) stack.old.items)))) }
 {
     let filled = filled(facts.tries, stack);
     keep(alloc, table, at, facts.targeted, stack)?;
@@ -148,6 +148,28 @@ fn behind(
     }
 }
 
+/// An instruction that breaks nothing whatever lies on the stack, with the types that fall into it.
+fn go_through<S: Steps, L: Lattice>(
+    alloc: Global,
+    table: &mut Table,
+    at: u32,
+    facts: &StepFacts,
+    falling: Option<Vec<StackType>>,
+    steps: &S,
+    lattice: &L,
+) -> Result<Result<Option<Vec<StackType>>, u8>, NoMemory>
+    ensures { IfOk result (λ after. (s : Step) (l : MachineLattice) (entries : List Entry) → step_at (S.steps steps.now) at ≡ Some s → s.broken ≡ [] → at < s.next → Tells (S.seen steps.now) s (is_target (S.steps steps.now) at) facts.now → Agrees (S.seen steps.now) (L.is_assignable lattice.now) (L.merged lattice.now) l → Keeps (S.seen steps.now) (is_needed (S.steps steps.now) at) table.old entries → Behind (S.seen steps.now) (is_needed (S.steps steps.now) s.next) table.new after (visit_of l s entries (seen_falling (S.seen steps.now) falling))) }
+{
+    let before = fallen(falling.is_some(), facts.falls_well);
+    match incoming(alloc, facts.begins, table.get(&at), falling, lattice)? {
+        Ok(mut stack) => {
+            let rule = met(alloc, table, at, facts, &mut stack, steps, lattice)?;
+            Ok(behind(lower(before, rule), facts.falls, stack))
+        }
+        Err(rule) => Ok(Err(lowest_with(before, rule))),
+    }
+}
+
 /// An instruction, with the types that fall into it. The answer is what falls through behind it, or the lowest rule that is
 /// broken there.
 pub fn visit<S: Steps, L: Lattice>(
@@ -159,14 +181,10 @@ pub fn visit<S: Steps, L: Lattice>(
     steps: &S,
     lattice: &L,
 ) -> Result<Result<Option<Vec<StackType>>, u8>, NoMemory>
-    ensures { IfOk result (λ after. (s : Step) (l : MachineLattice) (entries : List Entry) → step_at (S.steps steps.now) at ≡ Some s → at < s.next → Tells (S.seen steps.now) s (is_target (S.steps steps.now) at) facts.now → Agrees (S.seen steps.now) (L.is_assignable lattice.now) (L.merged lattice.now) l → Keeps (S.seen steps.now) (is_needed (S.steps steps.now) at) table.old entries → Behind (S.seen steps.now) (is_needed (S.steps steps.now) s.next) table.new after (visit_of l s entries (seen_falling (S.seen steps.now) falling))) }
+    ensures { IfOk result (λ after. (s : Step) (l : MachineLattice) (entries : List Entry) → step_at (S.steps steps.now) at ≡ Some s → IsRanked s → at < s.next → Tells (S.seen steps.now) s (is_target (S.steps steps.now) at) facts.now → Agrees (S.seen steps.now) (L.is_assignable lattice.now) (L.merged lattice.now) l → Keeps (S.seen steps.now) (is_needed (S.steps steps.now) at) table.old entries → Behind (S.seen steps.now) (is_needed (S.steps steps.now) s.next) table.new after (visit_of l s entries (seen_falling (S.seen steps.now) falling))) }
 {
-    let before = lower(fallen(falling.is_some(), facts.falls_well), facts.broken);
-    match incoming(alloc, facts.begins, table.get(&at), falling, lattice)? {
-        Ok(mut stack) => {
-            let rule = met(alloc, table, at, facts, &mut stack, steps, lattice)?;
-            Ok(behind(lower(before, rule), facts.falls, stack))
-        }
-        Err(rule) => Ok(Err(lowest_with(before, rule))),
+    match facts.broken {
+        Some(rule) => Ok(Err(lowest_with(fallen(falling.is_some(), facts.falls_well), rule))),
+        None => go_through(alloc, table, at, facts, falling, steps, lattice),
     }
 }

@@ -6,7 +6,7 @@ use Rattle.forward_pass.proofs.code.pass.Goals as goal
 
 pub loop-at-init : goal.loop-at-init
 loop-at-init g c = record {
-  walks = begins (g.S.Steps.steps c.args.steps.now) (g.S.Steps.seen c.args.steps.now) (g.L.Lattice.is_assignable c.args.lattice.now) (g.L.Lattice.merged c.args.lattice.now) c.args.size c.new-table.result c.new.result c.requires c.new-table.ensures.empty c.new.ensures.items;
+  walks = begins (g.S.Steps.steps c.args.steps.now) (g.S.Steps.seen c.args.steps.now) (g.L.Lattice.is_assignable c.args.lattice.now) (g.L.Lattice.merged c.args.lattice.now) c.args.size c.new-table.result c.new.result c.requires.lies c.new-table.ensures.empty c.new.ensures.items;
 }
 
 pub returns-in-Err : goal.returns-in-Err
@@ -18,7 +18,7 @@ returns-in-Err g c =
     let merged = g.L.Lattice.merged c.args.lattice.now in
     let visits : Visits steps seen assignable merged c.loop-at.table c.loop-at.falling c.loop-at.at c.in_ok-facts.facts c.visit.new.table (Err c.in-Err.rule) =
     subst (λ (r : Result (Option (Vec WorldType)) ℕ). Visits steps seen assignable merged c.loop-at.table c.loop-at.falling c.loop-at.at c.in_ok-facts.facts c.visit.new.table r) c.in-Err.is c.in_ok-stack.ensures in
-    breaks steps seen assignable merged c.loop-at.table c.loop-at.falling c.loop-at.at c.args.size c.loop-at.invariant.walks c.loop-at-test.true c.in_ok-facts.facts c.in_ok-facts.ensures c.visit.new.table c.in-Err.rule visits l agrees
+    breaks steps seen assignable merged c.loop-at.table c.loop-at.falling c.loop-at.at c.args.size c.loop-at.invariant.walks c.requires.ranked c.loop-at-test.true c.in_ok-facts.facts c.in_ok-facts.ensures c.visit.new.table c.in-Err.rule visits l agrees
 
 pub loop-at-smaller : goal.loop-at-smaller
 loop-at-smaller g c =
@@ -34,7 +34,7 @@ loop-at-preserved g c = record {
       let merged = g.L.Lattice.merged c.args.lattice.now in
       let visits : Visits steps seen assignable merged c.loop-at.table c.loop-at.falling c.loop-at.at c.in_ok-facts.facts c.visit.new.table (Ok c.in-Ok.stack) =
       subst (λ (r : Result (Option (Vec WorldType)) ℕ). Visits steps seen assignable merged c.loop-at.table c.loop-at.falling c.loop-at.at c.in_ok-facts.facts c.visit.new.table r) c.in-Ok.is c.in_ok-stack.ensures in
-      walk_on steps seen assignable merged c.loop-at.table c.loop-at.falling c.loop-at.at c.args.size c.loop-at.invariant.walks c.loop-at-test.true c.in_ok-facts.facts c.in_ok-facts.ensures c.visit.new.table c.in-Ok.stack visits;
+      walk_on steps seen assignable merged c.loop-at.table c.loop-at.falling c.loop-at.at c.args.size c.loop-at.invariant.walks c.requires.ranked c.loop-at-test.true c.in_ok-facts.facts c.in_ok-facts.ensures c.visit.new.table c.in-Ok.stack visits;
 }
 
 pub returns : goal.returns

@@ -8,7 +8,7 @@ use Rattle.forward_pass.proofs.visit.met.Goals as goal
 
 pub returns : goal.returns
 returns g c =
-    λ s l entries at up tells agrees keeps.
+    λ s l entries at clean up tells agrees keeps.
     let seen = g.S.Steps.seen c.args.steps.now in
     let steps = g.S.Steps.steps c.args.steps.now in
     let needed = is_needed steps s.next in
@@ -24,4 +24,4 @@ returns g c =
     subst (λ (k : ℕ). Keeps seen needed c.keep.new.table (put k ts entries)) (sym (found_at steps c.args.at s at)) kept in
     subst (λ (o : Option ℕ). Goes seen needed s c.acted.new.table c.acted.new.stack.items o (met l s entries (Ok ts))) (sym c.lower.ensures)
     (met_goes l seen needed s entries c.acted.new.table ts c.acted.new.stack.items c.filled-filled.result c.in_ok-rule.rule filled
-    (c.in_ok-rule.ensures s l (put s.at ts entries) at tells agrees kept_there))
+    (c.in_ok-rule.ensures s l (put s.at ts entries) at clean tells agrees kept_there))

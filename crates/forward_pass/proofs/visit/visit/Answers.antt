@@ -1,38 +1,20 @@
-use Rattle.std.proofs.Common.{◌≡◌, ℕ, Option, Result, Ok, Err, sym, ap, ◌∙◌, subst}
-use Rattle.std.specs.Global.{Vec}
-use Rattle.ecma_types.specs.declared.stack.StackType.{StackType as WorldType}
-use Rattle.code_rules.specs.Pass.{incoming, standing, visit}
-use Rattle.forward_pass.specs.Seen.{is_needed, seen_falling, seen_stack, seen_types}
-use Rattle.forward_pass.specs.Told.{Behind, left_behind}
-use Rattle.forward_pass.proofs.VisitLaws.{arrives, before_is, visit_behind, visit_fails}
+use Rattle.std.proofs.Common.{sym, ◌∙◌}
+use Rattle.forward_pass.specs.Seen.{is_needed, seen_falling}
+use Rattle.forward_pass.proofs.RuleLaws.{none_lowest}
+use Rattle.forward_pass.proofs.EdgeLaws.{if_ok}
+use Rattle.forward_pass.proofs.VisitLaws.{fell_is, visit_breaks}
 use Rattle.forward_pass.proofs.visit.visit.Goals as goal
 
-pub returns-in_ok-rule-in-Ok : goal.returns-in_ok-rule-in-Ok
-returns-in_ok-rule-in-Ok g c =
-    λ s l entries at up tells agrees keeps.
+pub returns-in-Some : goal.returns-in-Some
+returns-in-Some g c =
+    λ s l entries at ranked up tells agrees keeps.
     let seen = g.S.Steps.seen c.args.steps.now in
     let steps = g.S.Steps.steps c.args.steps.now in
-    let needed = is_needed steps s.next in
-    let facts = c.args.facts.now in
-    let falling = seen_falling seen c.args.falling in
-    let before = before_is seen steps s c.args.at facts tells c.args.falling c.is_some.result c.fallen.result c.lower-before.result c.is_some.ensures c.fallen.ensures c.lower-before.ensures in
-    let came : Ok (seen_stack seen c.in-Ok.stack.items) ≡ incoming l s.begins (standing entries s.at) falling =
-    subst (λ (r : Result (Vec WorldType) ℕ). seen_types seen r ≡ incoming l s.begins (standing entries s.at) falling) c.in-Ok.is
-    (arrives seen steps s c.args.at facts tells c.args.falling l entries c.args.table.now c.get.result c.in_ok-stack.field-0 at keeps c.get.ensures.value (c.in_ok-stack.ensures seen l agrees)) in
-    let goes = c.in_ok-rule-in-Ok.ensures s l entries at up tells agrees keeps in
-    let behind = visit_behind l seen needed s entries c.met.new.table falling (seen_stack seen c.in-Ok.stack.items) c.met.new.stack c.lower-before.result c.in_ok-rule-in-Ok.rule facts.falls before came tells.falls goes in
-    subst (λ (r : Result (Option (Vec WorldType)) ℕ). Behind seen needed c.met.new.table r (visit l s entries falling))
-    (sym (c.behind.ensures ∙ ap (λ (o : Option ℕ). left_behind o facts.falls c.met.new.stack) c.lower.ensures)) behind
+    let fell = fell_is seen steps s c.args.at c.args.facts.now tells c.args.falling c.is_some.result c.fallen.result c.is_some.ensures c.fallen.ensures in
+    visit_breaks l seen (is_needed steps s.next) s entries c.args.table.now (seen_falling seen c.args.falling) c.fallen.result c.in-Some.rule c.lowest_with.result ranked (sym tells.broken ∙ c.in-Some.is) fell c.lowest_with.ensures
 
-pub returns-in-Err : goal.returns-in-Err
-returns-in-Err g c =
-    λ s l entries at up tells agrees keeps.
-    let seen = g.S.Steps.seen c.args.steps.now in
-    let steps = g.S.Steps.steps c.args.steps.now in
-    let facts = c.args.facts.now in
-    let falling = seen_falling seen c.args.falling in
-    let before = before_is seen steps s c.args.at facts tells c.args.falling c.is_some.result c.fallen.result c.lower-before.result c.is_some.ensures c.fallen.ensures c.lower-before.ensures in
-    let came : Err c.in-Err.rule ≡ incoming l s.begins (standing entries s.at) falling =
-    subst (λ (r : Result (Vec WorldType) ℕ). seen_types seen r ≡ incoming l s.begins (standing entries s.at) falling) c.in-Err.is
-    (arrives seen steps s c.args.at facts tells c.args.falling l entries c.args.table.now c.get.result c.in_ok-stack.field-0 at keeps c.get.ensures.value (c.in_ok-stack.ensures seen l agrees)) in
-    visit_fails l seen (is_needed steps s.next) s entries c.args.table.now falling c.lower-before.result c.in-Err.rule c.lowest_with.result before came c.lowest_with.ensures
+pub returns-in-None : goal.returns-in-None
+returns-in-None g c =
+    if_ok c.go_through.result c.go_through.ensures
+    (λ after says. λ s l entries at ranked up tells agrees keeps.
+    says s l entries at (none_lowest s.broken (sym tells.broken ∙ c.in-None.is)) up tells agrees keeps)
