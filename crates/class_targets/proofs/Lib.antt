@@ -4,3 +4,4 @@ pub mod OwnLaws
 pub mod TargetLaws
 pub mod InheritLaws
 pub mod SlotLaws
+pub mod KeptLaws
