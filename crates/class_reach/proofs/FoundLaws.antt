@@ -1,13 +1,15 @@
 -- A class is added to those that were found.
 use Rattle.std.proofs.Common.{◌≡◌, ℕ, ◌+◌, ◌≤◌, Bool, true, false, cond, ◌&&◌, ◌||◌, ◌==◌, List, [], ◌∷◌, ◌++◌, map, take, length, get_or, ◌<◌, refl, sym, ap, ◌∙◌, arith, append_assoc, add-one, subst}
-use Rattle.std.specs.Prelude.{not, count_by}
+use Rattle.std.specs.Prelude.{count_by}
 use Rattle.std.specs.List.{list_any}
 use Rattle.std.specs.Ordering.{is_eq}
 use Rattle.std.specs.Bool.{OnFalse}
 use Rattle.std.specs.BTreeSet.{contains, Updates}
 use Rattle.std.proofs.lemmas.Bool.{eq-eqb}
+use Rattle.std.proofs.Math.Bool.{or-false}
+use Rattle.std.specs.Cmp.{both_ways}
 use Rattle.std.proofs.Math.Seq.{take-suc}
-use Rattle.std.proofs.lemmas.List.{map-append}
+use Rattle.std.proofs.lemmas.List.{append-nil, map-append}
 use Rattle.std.proofs.lemmas.List.Folds.{list_any-append}
 use Rattle.std.proofs.lemmas.List.Sums.{sum_by-append, sum_by-cons}
 use Rattle.machine.specs.Data.{Id, id_eq}
@@ -23,12 +25,6 @@ use Rattle.class_reach.specs.Found.{class_order, among, IsFound, Adds}
 
 pub id_here : (a : Id) → id_eq a a ≡ true
 id_here a = ap (λ b. b && (a.row == a.row)) (eq-eqb a.file a.file refl) ∙ eq-eqb a.row a.row refl
-
--- two tests that pass at the same time
-pub both_ways : (a b : Bool) → (a ≡ true → b ≡ true) → (b ≡ true → a ≡ true) → a ≡ b
-both_ways true b f g = sym (f refl)
-both_ways false true f g = g refl
-both_ways false false f g = refl
 
 pub id_turned : (a b : Id) → id_eq a b ≡ id_eq b a
 id_turned a b = both_ways (id_eq a b) (id_eq b a) (turn a b) (turn b a)
@@ -55,10 +51,6 @@ none_counted d (x ∷ xs) e = sum_by-cons (λ y. cond (id_eq d y) 1 0) x xs ∙ 
     go true e f = absurd (cc e)
     go false e f = let rest = f e in omega (arith, rest)
 
-or_false : (b : Bool) → (b || false) ≡ b
-or_false true = refl
-or_false false = refl
-
 or_join : (a b c : Bool) → ((a || b) || c) ≡ (a || (b || c))
 or_join true b c = refl
 or_join false b c = refl
@@ -66,11 +58,7 @@ or_join false b c = refl
 -- ---- what was found
 
 pub adds_none : (f : Found) → IsFound f → Adds [] f f
-adds_none f found = record { found = found; more = ([], sym (right f.items.items)); has = λ d. sym (or_false (among d f.items.items)) }
-  where
-    right : (xs : List ClassId) → xs ++ [] ≡ xs
-    right [] = refl
-    right (x ∷ xs) = ap (λ ys. x ∷ ys) (right xs)
+adds_none f found = record { found = found; more = ([], sym (append-nil f.items.items)); has = λ d. sym (or-false (among d f.items.items)) }
 
 pub adds_both : (xs ys : List Id) (f g h : Found) → Adds xs f g → Adds ys g h → Adds (xs ++ ys) f h
 adds_both xs ys f g h a b =
@@ -132,14 +120,10 @@ module _ (f g : Found) (c : ClassId) (found : IsFound f) where
   stayed known keys items =
       record {
         found = record { seen = seen_same; once = λ d. subst (λ xs. count_by (id_eq d) (map class_seen xs) ≤ 1) (sym items) (found.once d) };
-        more = ([], items ∙ sym (right f.items.items));
+        more = ([], items ∙ sym (append-nil f.items.items));
         has = λ d. ap (among d) items ∙ go d (id_eq d (class_seen c)) refl;
       }
     where
-      right : (xs : List ClassId) → xs ++ [] ≡ xs
-      right [] = refl
-      right (x ∷ xs) = ap (λ ys. x ∷ ys) (right xs)
-
       seen_same : (q : ClassId) → contains class_order g.seen q ≡ among (class_seen q) g.items.items
       seen_same q = ap (λ ks. list_any (λ k. is_eq (class_order q k)) ks) keys ∙ found.seen q ∙ ap (among (class_seen q)) (sym items)
 
@@ -147,20 +131,12 @@ module _ (f g : Found) (c : ClassId) (found : IsFound f) where
       go d true e =
           let there : among d f.items.items ≡ true = subst (λ z. among z f.items.items ≡ true) (sym (id_same d (class_seen c) e)) (sym (found.seen c) ∙ known) in
           there ∙ sym (ap (λ t. t || (id_eq d (class_seen c) || false)) there)
-      go d false e = sym (ap (λ t. among d f.items.items || (t || false)) e ∙ or_false (among d f.items.items))
+      go d false e = sym (ap (λ t. among d f.items.items || (t || false)) e ∙ or-false (among d f.items.items))
 
 -- ---- lists
 
 pub one_more_taken : {A B : Type 0} (f : A → B) (xs : List A) (i : ℕ) (d : A) → i < length xs → map f (take (i + 1) xs) ≡ map f (take i xs) ++ f (get_or xs i d) ∷ []
 one_more_taken f xs i d h = ap (λ n. map f (take n xs)) (add-one i) ∙ ap (map f) (take-suc xs i d h) ∙ map-append f (take i xs) (get_or xs i d ∷ [])
-
-pub not_true : (b : Bool) → not b ≡ true → b ≡ false
-not_true true e = absurd (cc e)
-not_true false e = refl
-
-pub not_false : (b : Bool) → not b ≡ false → b ≡ true
-not_false true e = refl
-not_false false e = absurd (cc e)
 
 pub if_not : {P : Type 0} (b : Bool) → b ≡ false → OnFalse b P → P
 if_not true e h = absurd (cc e)

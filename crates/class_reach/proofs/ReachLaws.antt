@@ -1,11 +1,13 @@
 -- What is reached in one step more, and when nothing more is reached.
-use Rattle.std.proofs.Common.{◌≡◌, ◌⊎◌, inl, inr, ⊎_elim, ℕ, zero, suc, ◌+◌, ◌-◌, ◌<◌, ◌≤◌, Bool, true, false, ◌||◌, List, [], ◌∷◌, ◌++◌, length, take, drop, refl, sym, ap, ◌∙◌, arith, subst, append_assoc, length-append, length-drop, get_or, Some}
+use Rattle.std.proofs.Common.{◌≡◌, ◌⊎◌, inl, inr, ⊎_elim, ℕ, zero, suc, ◌+◌, ◌-◌, ◌<◌, ◌≤◌, Bool, true, ◌||◌, List, [], ◌∷◌, ◌++◌, length, take, drop, refl, sym, ap, ◌∙◌, arith, subst, append_assoc, length-append, length-drop, get_or, Some}
 use Rattle.std.specs.Prelude.{slice_get}
 use Rattle.std.specs.List.{list_any}
+use Rattle.std.specs.Cmp.{both_ways}
 use Rattle.std.proofs.lemmas.Bool.{or_cases}
-use Rattle.std.proofs.lemmas.List.{take-append-drop}
+use Rattle.std.proofs.Math.Bool.{or-false}
+use Rattle.std.proofs.lemmas.List.{append-nil, get_or-drop, take_all, take-append-drop}
 use Rattle.std.proofs.lemmas.List.Folds.{list_any-append}
-use Rattle.std.proofs.Math.Seq.{take-append_seam, take-suc}
+use Rattle.std.proofs.Math.Seq.{take-append_seam, take-length, take-suc}
 use Rattle.machine.specs.Data.{Id, id_eq}
 use Rattle.alike.proofs.Members.{id_same}
 use Rattle.classes.specs.Classes.{Classes}
@@ -15,7 +17,7 @@ use Rattle.member_keys.specs.declared.keys.ClassId.{ClassId}
 use Rattle.member_keys.specs.Seen.{class_seen}
 use Rattle.class_reach.specs.Found.{among}
 use Rattle.class_reach.specs.Levels.{all_parents, AreReached}
-use Rattle.class_reach.proofs.FoundLaws.{id_here, id_turned, both_ways, among_both}
+use Rattle.class_reach.proofs.FoundLaws.{id_here, id_turned, among_both}
 
 module _ (next : Id → List Id) where
   -- ---- a step more
@@ -115,14 +117,10 @@ module _ (cs : Classes) where
     pub reached_first : (c : ClassId) → class_seen c ≡ from → AreReached cs from 0 0 (c ∷ [])
     reached_first c e =
         record {
-          reached = λ d. only (id_eq d (class_seen c)) ∙ id_turned d (class_seen c) ∙ ap (λ z. id_eq z d) e;
+          reached = λ d. or-false (id_eq d (class_seen c)) ∙ id_turned d (class_seen c) ∙ ap (λ z. id_eq z d) e;
           behind = λ d h. absurd (cc h);
           within = omega arith;
         }
-      where
-        only : (b : Bool) → (b || false) ≡ b
-        only true = refl
-        only false = refl
 
     pub reached_next : (steps start : ℕ) (items more all : List ClassId) → AreReached cs from steps start items → all ≡ items ++ more → ((d : Id) → among d all ≡ (among d items || list_any (id_eq d) (all_parents cs (drop start items)))) → AreReached cs from (suc steps) (length items) all
     reached_next steps start items more all are whole has =
@@ -166,11 +164,7 @@ module _ (cs : Classes) where
         (λ e. reach_closed (parents cs) (λ c. among c items) closed most from d (are.reached from ∙ reach_self (parents cs) steps from from (id_here from)) e)
       where
         closed : (c d : Id) → among c items ≡ true → list_any (id_eq d) (parents cs c) ≡ true → among d items ≡ true
-        closed c d e f = are.behind d (subst (λ xs. list_any (id_eq d) (all_parents cs xs) ≡ true) (sym (take_all items)) (any_parent d c items e f))
-          where
-            take_all : (xs : List ClassId) → take (length xs) xs ≡ xs
-            take_all [] = refl
-            take_all (x ∷ xs) = ap (λ ys. x ∷ ys) (take_all xs)
+        closed c d e f = are.behind d (subst (λ xs. list_any (id_eq d) (all_parents cs xs) ≡ true) (sym (take-length items)) (any_parent d c items e f))
 
   -- the classes from a place on, with one more
   pub one_more_level : (xs : List ClassId) (start place : ℕ) (d : ClassId) → start ≤ place → place < length xs → all_parents cs (take (place + 1 - start) (drop start xs)) ≡ all_parents cs (take (place - start) (drop start xs)) ++ parents cs (class_seen (get_or xs place d))
@@ -181,32 +175,12 @@ module _ (cs : Classes) where
       ap (λ n. all_parents cs (take n (drop start xs))) more
       ∙ ap (all_parents cs) (take-suc (drop start xs) (place - start) d few)
       ∙ parents_both (take (place - start) (drop start xs)) (get_or (drop start xs) (place - start) d ∷ [])
-      ∙ ap (λ zs. all_parents cs (take (place - start) (drop start xs)) ++ zs) (only (parents cs (class_seen (get_or (drop start xs) (place - start) d))))
-      ∙ ap (λ x. all_parents cs (take (place - start) (drop start xs)) ++ parents cs (class_seen x)) (dropped xs start (place - start) ∙ ap (λ n. get_or xs n d) at)
-    where
-      only : (zs : List Id) → zs ++ [] ≡ zs
-      only [] = refl
-      only (z ∷ zs) = ap (λ ys. z ∷ ys) (only zs)
-
-      dropped : (xs : List ClassId) (start i : ℕ) → get_or (drop start xs) i d ≡ get_or xs (start + i) d
-      dropped xs zero i = let same : i ≡ 0 + i = omega arith in ap (λ n. get_or xs n d) same
-      dropped [] (suc start) i = refl
-      dropped (x ∷ xs) (suc start) i = let same : suc start + i ≡ suc (start + i) = omega arith in dropped xs start i ∙ sym (ap (λ n. get_or (x ∷ xs) n d) same)
-
-pub get_front : (xs ys : List ClassId) (i : ℕ) (d : ClassId) → i < length xs → get_or (xs ++ ys) i d ≡ get_or xs i d
-get_front [] ys i d h = absurd (omega (arith, h))
-get_front (x ∷ xs) ys zero d h = refl
-get_front (x ∷ xs) ys (suc i) d h = get_front xs ys i d (omega (arith, h))
+      ∙ ap (λ zs. all_parents cs (take (place - start) (drop start xs)) ++ zs) (append-nil (parents cs (class_seen (get_or (drop start xs) (place - start) d))))
+      ∙ ap (λ x. all_parents cs (take (place - start) (drop start xs)) ++ parents cs (class_seen x)) (get_or-drop start xs (place - start) d ∙ ap (λ n. get_or xs n d) at)
 
 pub first_front : (xs ys all : List ClassId) (c : ClassId) → all ≡ xs ++ ys → slice_get xs 0 ≡ Some c → slice_get all 0 ≡ Some c
 first_front [] ys all c e h = absurd (cc h)
 first_front (x ∷ xs) ys all c e h = ap (λ zs. slice_get zs 0) e ∙ h
 
 pub whole_level : (xs : List ClassId) (start end : ℕ) → end ≡ length xs → take (end - start) (drop start xs) ≡ drop start xs
-whole_level xs start end e = all_taken (drop start xs) (end - start) (omega (arith, e, length-drop start xs))
-  where
-    all_taken : (ys : List ClassId) (n : ℕ) → length ys ≤ n → take n ys ≡ ys
-    all_taken [] zero h = refl
-    all_taken [] (suc n) h = refl
-    all_taken (y ∷ ys) zero h = absurd (omega (arith, h))
-    all_taken (y ∷ ys) (suc n) h = ap (λ zs. y ∷ zs) (all_taken ys n (omega (arith, h)))
+whole_level xs start end e = take_all (end - start) (drop start xs) (omega (arith, e, length-drop start xs))

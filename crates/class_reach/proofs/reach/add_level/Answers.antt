@@ -1,11 +1,12 @@
 use Rattle.std.proofs.Common.{◌≡◌, ◌∙◌, ◌-◌, ◌<◌, ◌≤◌, length, take, drop, sym, ap, arith, subst, get_or}
+use Rattle.std.proofs.Math.ListN.{get_or-append}
 use Rattle.classes.specs.Queries.{parents}
 use Rattle.member_keys.specs.Seen.{class_seen}
 use Rattle.class_table.specs.Seen.{classes_seen}
 use Rattle.class_reach.specs.Found.{Adds}
 use Rattle.class_reach.specs.Levels.{all_parents}
 use Rattle.class_reach.proofs.FoundLaws.{adds_both}
-use Rattle.class_reach.proofs.ReachLaws.{one_more_level, get_front}
+use Rattle.class_reach.proofs.ReachLaws.{one_more_level}
 use Rattle.class_reach.proofs.reach.add_level.Goals as goal
 
 pub loop-place-preserved : goal.loop-place-preserved
@@ -16,7 +17,7 @@ loop-place-preserved c =
     let here = c.loop-place.invariant.adds in
     let below : place < length items = omega (arith, c.loop-place-test.true, c.requires.end) in
     let low : c.args.start ≤ place = omega arith in
-    let is : c.index-class.result.now ≡ get_or items place c.index-class.result.now = c.index-class.ensures ∙ ap (λ xs. get_or xs place c.index-class.result.now) here.more.1 ∙ get_front items here.more.0 place c.index-class.result.now below in
+    let is : c.index-class.result.now ≡ get_or items place c.index-class.result.now = c.index-class.ensures ∙ ap (λ xs. get_or xs place c.index-class.result.now) here.more.1 ∙ get_or-append items here.more.0 c.index-class.result.now place below in
     record {
       adds =
           subst (λ xs. Adds xs c.args.found.now c.add_parents.new.found) (sym (one_more_level cs items c.args.start place c.index-class.result.now low below))
