@@ -6,3 +6,5 @@ pub mod Members
 pub mod Shapes
 pub mod Whole
 pub mod Told
+pub mod Places
+pub mod Ruled
