@@ -1,13 +1,17 @@
 -- What the spellings of types of classes are.
-use Rattle.std.proofs.Common.{◌≡◌, ◌⊎◌, inl, inr, ◌<◌, Bool, true, false, Option, Some, None, refl, sym, ap, ◌∙◌, subst, arith}
+use Rattle.std.proofs.Common.{◌≡◌, ◌⊎◌, inl, inr, ℕ, ◌<◌, List, Bool, true, false, Option, Some, None, refl, sym, ap, ◌∙◌, subst, arith}
 use Rattle.std.specs.Prelude.{is_some, nat_eq}
-use Rattle.std.proofs.lemmas.Bool.{cases_Bool, eqb-true}
+use Rattle.std.proofs.lemmas.Bool.{and_parts, cases_Bool, eqb-true}
+use Rattle.std.specs.Option.{option_map}
 use Rattle.plain_types.specs.declared.elem.Elem.{Elem}
 use Rattle.plain_types.specs.declared.elem.Elem.TheVariants as elem
 use Rattle.ecma_types.specs.declared.id.TypeId.{TypeId}
 use Rattle.machine.specs.Data.{Id, CliType, Basic, EnumOf, ClassOf, ValueOf, ArrayOf}
-use Rattle.classes.specs.Classes.{Classes, TypeKind, Reference, Builtin, Enumeration, OtherValue}
-use Rattle.classes.specs.Queries.{basic_name, is_integer, kind_of, type_by_kind, type_of_class}
+use Rattle.classes.specs.Classes.{Classes, Class, TypeKind, Reference, Builtin, Enumeration, OtherValue}
+use Rattle.classes.specs.Queries.{basic_name, is_integer, kind_of, library_class, own_instance_fields, type_by_kind, type_of_class}
+use Rattle.classes.specs.Reading.{IsRead}
+use Rattle.class_rules.specs.Rules.{Keeps, is_one_of, value_well}
+use Rattle.machine.specs.Throw.{on_some}
 use Rattle.place_types.specs.Types.{base_type, id_down, id_of, no_type, number_by, type_down}
 use Rattle.cil_types.specs.Spelt.{AreSpelt, kind_spelt, type_spelt}
 
@@ -62,3 +66,20 @@ class_spelt cs spelt c = go (kind_of cs c) (λ q h. spelt c q h)
     go (Some (Enumeration e)) h = h (Enumeration e) refl
     go (Some OtherValue) h = refl
     go (Some Reference) h = refl
+
+module _ (n : ℕ) (cs : Classes) (r : IsRead n cs) (k : Keeps n cs) where
+  named : (e : Elem) (o : Option (List ℕ)) (c : Id) → on_some o (library_class cs) ≡ Some c → is_some o ≡ true
+  named e None c h = absurd (cc h)
+  named e (Some name) c h = refl
+
+  pub kinds_spelt : AreSpelt cs
+  kinds_spelt c (Builtin e) h = named e (basic_name e) c (r.builtin c e h)
+  kinds_spelt c Reference h = refl
+  kinds_spelt c OtherValue h = refl
+  kinds_spelt c (Enumeration e) h = go (cs.class c) refl h
+    where
+      go : (o : Option Class) → cs.class c ≡ o → option_map (λ x. x.kind) o ≡ Some (Enumeration e) → is_integer e ≡ true
+      go None at h = absurd (cc h)
+      go (Some x) at h =
+          let is : x.kind ≡ Enumeration e = cc h in
+          (and_parts (is_integer e) (is_one_of e (own_instance_fields cs c)) (ap (value_well cs c) (sym is) ∙ k.values c x at)).0

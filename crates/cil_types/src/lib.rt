@@ -3,6 +3,7 @@
 
 mod fits;
 mod joins;
+pub mod law;
 mod rows;
 mod spell;
 
