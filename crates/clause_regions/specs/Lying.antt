@@ -18,4 +18,3 @@ four_nest b c =
 abbrev pub four_keep : CodeClause → CodeClause → Bool
 four_keep b c =
     lie.try_keeps_whole (lie.try_of b) c && lie.keeps_whole (lie.handler_of b) c && lie.try_keeps_whole (lie.try_of c) b && lie.keeps_whole (lie.handler_of c) b
-

@@ -1,7 +1,7 @@
 -- The instructions of code one after the other.
-use Rattle.std.proofs.Common.{◌≡◌, ℕ, zero, suc, ◌+◌, ◌-◌, ◌<◌, ◌≤◌, Bool, true, false, List, [], ◌∷◌, ◌++◌, length, map, get_or, Option, Some, None, Result, Ok, Err, refl, sym, ap, subst, ◌∙◌, arith}
+use Rattle.std.proofs.Common.{◌≡◌, ℕ, zero, suc, ◌+◌, ◌-◌, ◌<◌, ◌≤◌, Bool, true, false, List, [], ◌∷◌, length, map, get_or, Option, Some, None, Result, Ok, Err, refl, sym, ap, subst, ◌∙◌, arith}
 use Rattle.std.specs.Prelude.{◌||◌, ◌&&◌, not, nat_eq, nat_le, replicate, if◌then◌else◌}
-use Rattle.std.specs.List.{flat_map, list_all, list_any, find}
+use Rattle.std.specs.List.{flat_map, list_all, find}
 use Rattle.std.specs.Option.{option_map}
 use Rattle.std.proofs.lemmas.Bool.{eqb-true, leb-true, leb-false}
 use Rattle.cil_code.specs.declared.fault.CodeFault.{CodeFault}
@@ -12,7 +12,7 @@ use Rattle.cil_code.proofs.Parts.{instruction_fits}
 use Rattle.cil_code.proofs.Walked.{walk_ends, walk_fails, walk_goes}
 use Rattle.code_places.specs.Among.{is_among}
 use Rattle.code_places.specs.Marks.{Marks}
-use Rattle.code_places.specs.Places.{targets_at, all_targets, end_from, end_of, goes_well, first_astray}
+use Rattle.code_places.specs.Places.{targets_at, all_targets, end_from, goes_well}
 use Rattle.code_places.proofs.MarkLaws.{marks_none, marks_after, marked, marked_past}
 
 abbrev pub rest : List ℕ → ℕ → List Placed

@@ -1,5 +1,5 @@
 -- 44 clause by clause.
-use Rattle.std.proofs.Common.{◌≡◌, ℕ, zero, suc, ◌+◌, ◌≤◌, Bool, true, false, cond, List, [], ◌∷◌, length, map, take, drop, get_or, Option, Some, None, refl, sym, ap, ◌∙◌, arith, subst}
+use Rattle.std.proofs.Common.{◌≡◌, ℕ, zero, suc, ◌+◌, ◌≤◌, Bool, true, false, cond, List, [], ◌∷◌, length, map, take, drop, get_or, Option, Some, None, refl, sym, ap, ◌∙◌, arith}
 use Rattle.std.specs.Prelude.{◌&&◌, ◌||◌, nat_eq, slice_get, if◌then◌else◌}
 use Rattle.std.specs.List.{list_all}
 use Rattle.std.specs.Option.{option_map}
@@ -22,7 +22,7 @@ use Rattle.verdict_rules.specs.World.{World}
 use Rattle.verdict_rules.specs.Code.{clause_well, clause_test}
 use Rattle.code_places.specs.Among.{is_among}
 use Rattle.code_places.specs.Places.{end_of}
-use Rattle.code_places.specs.Clauses.{clause_seen, is_bound, stands_on_starts, stands_well}
+use Rattle.code_places.specs.Clauses.{clause_seen, is_bound, stands_on_starts}
 use Rattle.code_tests.specs.Tests.{first_broken, handles_well, clause_meant, clause_keeps, first_wrong}
 
 both_by : {A B C : Type 0} (f : A → B → C) {a d : A} {b e : B} → a ≡ d → b ≡ e → f a b ≡ f d e

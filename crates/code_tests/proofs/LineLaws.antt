@@ -1,6 +1,6 @@
 -- The lines of code by the instructions that the walk meets.
-use Rattle.std.proofs.Common.{◌≡◌, ℕ, zero, suc, ◌+◌, ◌-◌, Bool, true, false, cond, List, [], ◌∷◌, length, map, Option, Some, None, Result, Ok, Err, refl, sym, ap, subst, ◌∙◌}
-use Rattle.std.specs.Prelude.{ℤ, pos, ◌+ℤ◌, unsigned_abs, ◌&&◌, ◌||◌, not, nat_eq, nat_le, unwrap_or, if◌then◌else◌}
+use Rattle.std.proofs.Common.{◌≡◌, ℕ, zero, suc, ◌+◌, ◌-◌, Bool, true, false, cond, List, [], ◌∷◌, length, map, Option, Some, None, Result, Ok, Err, refl, sym, ap, ◌∙◌}
+use Rattle.std.specs.Prelude.{pos, ◌+ℤ◌, unsigned_abs, ◌||◌, not, nat_eq, nat_le, unwrap_or, if◌then◌else◌}
 use Rattle.std.specs.List.{filter_map, cons_option, find, list_all, range_with_len}
 use Rattle.std.specs.Option.{option_map}
 use Rattle.cil_opcodes.specs.declared.shape.Operand.{Operand}
@@ -11,7 +11,7 @@ use Rattle.cil_opcodes.specs.Rows.{row_of}
 use Rattle.cil_code.specs.declared.fault.CodeFault.{CodeFault}
 use Rattle.cil_code.specs.declared.instructions.Instr.{Instr}
 use Rattle.cil_code.specs.Instructions.{instruction_at, target_at}
-use Rattle.cil_code.specs.Walk.{Placed, Walk, met_at, walk_within, walk_from, instructions_of, starts_of}
+use Rattle.cil_code.specs.Walk.{Placed, met_at, walk_within, walk_from, instructions_of, starts_of}
 use Rattle.cil_code.proofs.Parts.{parts}
 use Rattle.file_tables.specs.Metadata.{MetadataPart}
 use Rattle.machine.specs.Data.{CliType}
@@ -28,7 +28,7 @@ use Rattle.code_rules.specs.Judgement as judgement
 use Rattle.code_rules.specs.Verdict.{steps_from}
 use Rattle.verdict_rules.specs.Order.{Test, test_at}
 use Rattle.code_places.specs.Among.{is_among}
-use Rattle.code_places.specs.Places.{kind_of, distances, behind, targets_at, end_from, end_of, goes_well}
+use Rattle.code_places.specs.Places.{distances, behind, targets_at, end_from, goes_well}
 use Rattle.code_places.proofs.Table.{both, is_branch, is_switch, kind_stands, row_stands}
 use Rattle.code_places.proofs.WalkLaws.{astray_in, all_same, then_walk}
 use Rattle.code_tests.specs.Tests.{first_broken}

@@ -1,22 +1,21 @@
 -- Where an instruction goes, by its shape.
-use Rattle.std.proofs.Common.{◌≡◌, ℕ, Bool, true, false, List, [], ◌∷◌, map, Option, Some, None, refl}
-use Rattle.std.specs.Prelude.{ℤ, pos, unsigned_abs, unwrap_or}
+use Rattle.std.proofs.Common.{◌≡◌, ℕ, Bool, true, false, List, [], ◌∷◌, map, Option, Some, None, refl, ap}
+use Rattle.std.specs.Prelude.{ℤ, pos, not, unsigned_abs}
 use Rattle.std.specs.List.{position}
 use Rattle.std.specs.Option.{option_map}
 use Rattle.cil_opcodes.specs.declared.shape.Shape.{Shape}
 use Rattle.cil_opcodes.specs.declared.shape.Shape.TheVariants as shapes
+use Rattle.cil_opcodes.specs.Rows.{is_transfer}
 use Rattle.machine.specs.Data.{Id, id_eq, Int, Long, Handle}
-use Rattle.machine.specs.Program.{Instruction, Nop, Push, Dup, Pop, LoadArgument, StoreArgument, LoadArgumentAddress, LoadLocal, StoreLocal, LoadLocalAddress, Call, CallVirtual, NewObject, LoadField, StoreField, LoadFieldAddress, LoadStatic, StoreStatic, LoadStaticAddress, LoadText, LoadIndirect, StoreIndirect, NewArray, LoadElement, StoreElement, LoadElementAddress, CastClass, IsInstance, Box, Unbox, UnboxAny, Rethrow, EndFinally}
+use Rattle.machine.specs.Program.{Instruction, Branch, BranchIf, BranchCompare, Switch, Leave, Push, LoadArgument, StoreArgument, LoadArgumentAddress, LoadLocal, StoreLocal, LoadLocalAddress, Call, CallVirtual, NewObject, LoadField, StoreField, LoadFieldAddress, LoadStatic, StoreStatic, LoadStaticAddress, LoadText, LoadIndirect, StoreIndirect, NewArray, LoadElement, StoreElement, LoadElementAddress, CastClass, IsInstance, Box, Unbox, UnboxAny, Rethrow, EndFinally}
 use Rattle.machine.specs.Throw.{on_some}
 use Rattle.classes.specs.Classes.{Classes}
 use Rattle.classes.specs.Code.{Operand, Targets, MethodCode}
-use Rattle.classes.specs.Listed.{own_or, number_of, target_place, type_of_operand, field_of, method_of, text_of, access_of, innermost, is_catch_kind, is_finally_kind, instruction_of}
+use Rattle.classes.specs.Listed.{own_or, number_of, target_of, targets_of, target_place, type_of_operand, field_of, method_of, text_of, access_of, innermost, is_catch_kind, is_finally_kind, instruction_of}
 use Rattle.classes.specs.Queries.{instance_fields}
-use Rattle.code_rules.specs.Flow.{targets}
+use Rattle.code_rules.specs.Flow.{targets, falls}
+use Rattle.code_tests.specs.Tests.{goes_to}
 use Rattle.code_places.proofs.Table.{is_branch, is_switch}
-
-abbrev pub goes_to : Option Instruction → List ℕ
-goes_to i = unwrap_or (option_map targets i) []
 
 quiet : {A : Type 0} (f : A → Instruction) → ((a : A) → targets (f a) ≡ []) → (o : Option A) → goes_to (option_map f o) ≡ []
 quiet f h None = refl
@@ -26,12 +25,23 @@ quiet_on : {A : Type 0} (g : A → Option Instruction) → ((a : A) → goes_to 
 quiet_on g h None = refl
 quiet_on g h (Some a) = h a
 
+steady : {A : Type 0} (f : A → Instruction) (b : Bool) → ((a : A) → falls (f a) ≡ b) → (o : Option A) → option_map falls (option_map f o) ≡ option_map (λ i. b) (option_map f o)
+steady f b h None = refl
+steady f b h (Some a) = ap Some (h a)
+
+steady_on : {A : Type 0} (b : Bool) (g : A → Option Instruction) → ((a : A) → option_map falls (g a) ≡ option_map (λ i. b) (g a)) → (o : Option A) → option_map falls (on_some o g) ≡ option_map (λ i. b) (on_some o g)
+steady_on b g h None = refl
+steady_on b g h (Some a) = h a
+
 module _ (cs : Classes) (code : MethodCode) (at : ℕ) where
   abbrev pub goes : Shape → Operand → List ℕ
   goes s o = goes_to (instruction_of cs code at s o)
 
   of_field : (make : Id → ℕ → Instruction) → ((owner : Id) (n : ℕ) → targets (make owner n) ≡ []) → (f : Id) → goes_to (on_some (cs.field_owner f) (λ owner. option_map (make owner) (position (λ g. id_eq g.id f) (instance_fields cs owner)))) ≡ []
   of_field make h f = quiet_on (λ owner. option_map (make owner) (position (λ g. id_eq g.id f) (instance_fields cs owner))) (λ owner. quiet (make owner) (h owner) (position (λ g. id_eq g.id f) (instance_fields cs owner))) (cs.field_owner f)
+
+  of_field_on : (make : Id → ℕ → Instruction) → ((owner : Id) (n : ℕ) → falls (make owner n) ≡ true) → (f : Id) → option_map falls (on_some (cs.field_owner f) (λ owner. option_map (make owner) (position (λ g. id_eq g.id f) (instance_fields cs owner)))) ≡ option_map (λ i. true) (on_some (cs.field_owner f) (λ owner. option_map (make owner) (position (λ g. id_eq g.id f) (instance_fields cs owner))))
+  of_field_on make h f = steady_on true (λ owner. option_map (make owner) (position (λ g. id_eq g.id f) (instance_fields cs owner))) (λ owner. steady (make owner) true (h owner) (position (λ g. id_eq g.id f) (instance_fields cs owner))) (cs.field_owner f)
 
   -- any other
   pub stays : (s : Shape) → is_branch s ≡ false → is_switch s ≡ false → (o : Operand) → goes s o ≡ []
@@ -190,3 +200,56 @@ module _ (cs : Classes) (code : MethodCode) (at : ℕ) where
   switches (shapes.StoreElement a) e zs = absurd cc
   switches shapes.LoadElementAddress e zs = absurd cc
   switches shapes.LoadToken e zs = absurd cc
+
+  -- whether control goes on behind it
+  pub falls_law : (s : Shape) (o : Operand) → option_map falls (instruction_of cs code at s o) ≡ option_map (λ i. not (is_transfer s)) (instruction_of cs code at s o)
+  falls_law shapes.Nop o = refl
+  falls_law (shapes.LoadArgument n) o = steady (λ (k : ℤ). LoadArgument (unsigned_abs k)) true (λ a. refl) (own_or n pos o)
+  falls_law shapes.LoadArgumentAddress o = steady (λ (k : ℤ). LoadArgumentAddress (unsigned_abs k)) true (λ a. refl) (number_of o)
+  falls_law shapes.StoreArgument o = steady (λ (k : ℤ). StoreArgument (unsigned_abs k)) true (λ a. refl) (number_of o)
+  falls_law (shapes.LoadLocal n) o = steady (λ (k : ℤ). LoadLocal (unsigned_abs k)) true (λ a. refl) (own_or n pos o)
+  falls_law (shapes.StoreLocal n) o = steady (λ (k : ℤ). StoreLocal (unsigned_abs k)) true (λ a. refl) (own_or n pos o)
+  falls_law shapes.LoadLocalAddress o = steady (λ (k : ℤ). LoadLocalAddress (unsigned_abs k)) true (λ a. refl) (number_of o)
+  falls_law shapes.LoadNull o = refl
+  falls_law (shapes.LoadInt32 n) o = steady (λ (k : ℤ). Push (Int k)) true (λ a. refl) (own_or n (λ k. k) o)
+  falls_law shapes.LoadInt64 o = steady (λ (k : ℤ). Push (Long k)) true (λ a. refl) (number_of o)
+  falls_law shapes.Duplicate o = refl
+  falls_law shapes.Pop o = refl
+  falls_law shapes.Call o = steady Call true (λ a. refl) (method_of o)
+  falls_law shapes.CallVirtual o = steady CallVirtual true (λ a. refl) (method_of o)
+  falls_law shapes.NewObject o = steady_on true (λ m. option_map (λ (owner : Id). NewObject owner m) (cs.method_owner m)) (λ m. steady (λ (owner : Id). NewObject owner m) true (λ owner. refl) (cs.method_owner m)) (method_of o)
+  falls_law shapes.Return o = refl
+  falls_law shapes.Branch o = steady Branch false (λ a. refl) (target_of o)
+  falls_law (shapes.BranchIf on) o = steady (BranchIf on) true (λ a. refl) (target_of o)
+  falls_law (shapes.BranchCompare comparison on) o = steady (BranchCompare comparison on) true (λ a. refl) (target_of o)
+  falls_law shapes.Switch o = steady Switch true (λ a. refl) (targets_of o)
+  falls_law (shapes.LoadIndirect a) o = steady LoadIndirect true (λ a. refl) (access_of cs a o)
+  falls_law (shapes.StoreIndirect a) o = steady StoreIndirect true (λ a. refl) (access_of cs a o)
+  falls_law (shapes.Binary operator) o = refl
+  falls_law (shapes.Shift operator) o = refl
+  falls_law (shapes.Unary operator) o = refl
+  falls_law (shapes.Compare comparison) o = refl
+  falls_law (shapes.Convert integer) o = refl
+  falls_law (shapes.ConvertChecked integer source) o = refl
+  falls_law shapes.LoadString o = steady LoadText true (λ a. refl) (text_of o)
+  falls_law shapes.CastClass o = steady CastClass true (λ a. refl) (type_of_operand cs o)
+  falls_law shapes.IsInstance o = steady IsInstance true (λ a. refl) (type_of_operand cs o)
+  falls_law shapes.Box o = steady Box true (λ a. refl) (type_of_operand cs o)
+  falls_law shapes.Unbox o = steady Unbox true (λ a. refl) (type_of_operand cs o)
+  falls_law shapes.UnboxAny o = steady UnboxAny true (λ a. refl) (type_of_operand cs o)
+  falls_law shapes.Throw o = refl
+  falls_law shapes.Rethrow o = steady Rethrow false (λ a. refl) (innermost is_catch_kind code at)
+  falls_law shapes.Leave o = steady Leave false (λ a. refl) (target_of o)
+  falls_law shapes.EndFinally o = steady EndFinally false (λ a. refl) (innermost is_finally_kind code at)
+  falls_law shapes.LoadField o = steady_on true (λ f. on_some (cs.field_owner f) (λ owner. option_map (LoadField owner) (position (λ g. id_eq g.id f) (instance_fields cs owner)))) (of_field_on LoadField (λ owner n. refl)) (field_of o)
+  falls_law shapes.LoadFieldAddress o = steady_on true (λ f. on_some (cs.field_owner f) (λ owner. option_map (LoadFieldAddress owner) (position (λ g. id_eq g.id f) (instance_fields cs owner)))) (of_field_on LoadFieldAddress (λ owner n. refl)) (field_of o)
+  falls_law shapes.StoreField o = steady_on true (λ f. on_some (cs.field_owner f) (λ owner. option_map (StoreField owner) (position (λ g. id_eq g.id f) (instance_fields cs owner)))) (of_field_on StoreField (λ owner n. refl)) (field_of o)
+  falls_law shapes.LoadStatic o = steady LoadStatic true (λ a. refl) (field_of o)
+  falls_law shapes.LoadStaticAddress o = steady LoadStaticAddress true (λ a. refl) (field_of o)
+  falls_law shapes.StoreStatic o = steady StoreStatic true (λ a. refl) (field_of o)
+  falls_law shapes.NewArray o = steady NewArray true (λ a. refl) (type_of_operand cs o)
+  falls_law shapes.LoadLength o = refl
+  falls_law (shapes.LoadElement a) o = steady LoadElement true (λ a. refl) (access_of cs a o)
+  falls_law (shapes.StoreElement a) o = steady StoreElement true (λ a. refl) (access_of cs a o)
+  falls_law shapes.LoadElementAddress o = steady LoadElementAddress true (λ a. refl) (type_of_operand cs o)
+  falls_law shapes.LoadToken o = steady (λ (f : Id). Push (Handle f)) true (λ a. refl) (field_of o)

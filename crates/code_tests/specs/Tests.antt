@@ -1,16 +1,18 @@
 -- The tests of a method's code before the forward pass: 41 to 44.
-use Rattle.std.specs.Prelude.{ℕ, suc, Bool, false, ◌&&◌, cond, if◌then◌else◌, List, [], ◌∷◌, ◌++◌, map, take, slice_index_or, Option, Some, None}
+use Rattle.std.specs.Prelude.{ℕ, suc, Bool, false, ◌&&◌, cond, if◌then◌else◌, List, [], ◌∷◌, ◌++◌, map, take, slice_index_or, Option, Some, None, unwrap_or}
+use Rattle.std.specs.Option.{option_map}
 use Rattle.cil_code.specs.declared.clause.Clause.{Clause}
 use Rattle.cil_code.specs.declared.fault.CodeFault.{CodeFault}
 use Rattle.cil_code.specs.Bodies.{BodyPart}
 use Rattle.cil_code.specs.Walk.{code_fault}
 use Rattle.file_tables.specs.File.{FilePart}
 use Rattle.machine.specs.Data.{ClassOf}
-use Rattle.machine.specs.Program.{Method}
+use Rattle.machine.specs.Program.{Method, Instruction}
 use Rattle.classes.specs.Code.{CodeClauseKind, CodeClause, MethodCode}
 use Rattle.assemblies.specs.Binding.{numbered, kind_with, clause_with, code_with}
 use Rattle.world_rows.specs.Lines.{raw_kind, raw_clause, raw_code}
 use Rattle.code_rules.specs.Pass.{Step}
+use Rattle.code_rules.specs.Flow.{targets}
 use Rattle.code_rules.specs.Judgement.{catches_well, steps_of}
 use Rattle.code_places.specs.Clauses.{clause_seen, stands_well}
 use Rattle.verdict_rules.specs.Order.{Test, test_at}
@@ -36,6 +38,9 @@ kind_meant w file x c = kind_with w.size w.rows file (raw_kind x.metadata c.kind
 abbrev pub clause_meant : World → ℕ → FilePart → Clause → CodeClause
 clause_meant w file x c = clause_with w.size w.rows file (raw_clause x.metadata c)
 
+abbrev pub clauses_meant : World → ℕ → FilePart → List Clause → List CodeClause
+clauses_meant w file x cs = map (clause_with w.size w.rows file) (map (raw_clause x.metadata) cs)
+
 -- the tests of some code and its steps
 abbrev pub tests_of : World → MethodCode → List Step → List Test
 tests_of w code steps = map (target_test w code steps) code.lines ++ numbered (clause_test w steps code.clauses) 0 code.clauses
@@ -45,6 +50,10 @@ abbrev pub tests_before : World → ℕ → FilePart → Method → BodyPart →
 tests_before w file x m b =
     let code = code_meant w file x b in
     walk_test (code_fault b.code) ∷ tests_of w code (steps_of w.sources (ClassOf (exception_of w)) m code)
+
+-- where an instruction goes by a branch, a leave or a switch
+abbrev pub goes_to : Option Instruction → List ℕ
+goes_to i = unwrap_or (option_map targets i) []
 
 -- ---- clause by clause
 

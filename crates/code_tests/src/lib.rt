@@ -2,6 +2,8 @@
 #![tactic(auto)]
 
 mod clauses;
+mod laws;
 mod tests;
 
+pub use laws::{clause_laws, instruction_laws};
 pub use tests::first_broken;

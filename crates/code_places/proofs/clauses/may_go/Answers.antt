@@ -1,4 +1,4 @@
-use Rattle.std.proofs.Common.{◌≡◌, ◌<◌, ◌≤◌, length, sym, ◌∙◌, arith}
+use Rattle.std.proofs.Common.{◌<◌, ◌≤◌, length, sym, ◌∙◌, arith}
 use Rattle.classes.specs.Code.{CodeClause}
 use Rattle.classes.specs.Clauses as lie
 use Rattle.code_places.specs.Clauses.{clause_seen}

@@ -1,4 +1,4 @@
-use Rattle.std.proofs.Common.{◌≡◌, ◌<◌, ◌≤◌, length, sym, ◌∙◌, arith}
+use Rattle.std.proofs.Common.{◌<◌, ◌≤◌, length, sym, ◌∙◌, arith}
 use Rattle.classes.specs.Code.{CodeClause}
 use Rattle.std.specs.Prelude.{◌&&◌}
 use Rattle.classes.specs.Listed.{in_handler, is_catch_kind}

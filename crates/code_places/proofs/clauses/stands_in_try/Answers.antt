@@ -1,4 +1,4 @@
-use Rattle.std.proofs.Common.{◌≡◌, ◌<◌, ◌≤◌, length, sym, ◌∙◌, arith}
+use Rattle.std.proofs.Common.{◌<◌, ◌≤◌, length, sym, ◌∙◌, arith}
 use Rattle.classes.specs.Code.{CodeClause}
 use Rattle.classes.specs.Listed.{in_try}
 use Rattle.code_places.specs.Clauses.{clause_seen}

@@ -1,4 +1,4 @@
-use Rattle.std.proofs.Common.{◌≡◌, ◌+◌, ◌*◌, ◌≤◌, length, Some, sym, ap, ◌∙◌, rules, arith, w64}
+use Rattle.std.proofs.Common.{◌+◌, ◌*◌, ◌≤◌, length, Some, sym, ap, ◌∙◌, arith}
 use Rattle.std.proofs.lemmas.Int.{ints}
 use Rattle.code_places.proofs.TargetLaws.{has_target, distance_is, target_inside}
 use Rattle.code_places.proofs.targets.distance.Goals as goal

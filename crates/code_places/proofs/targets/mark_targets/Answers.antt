@@ -1,4 +1,4 @@
-use Rattle.std.proofs.Common.{◌≡◌, ◌≤◌, ◌<◌, length, arith}
+use Rattle.std.proofs.Common.{◌≤◌, length, arith}
 use Rattle.cil_code.specs.Walk.{Placed}
 use Rattle.code_places.specs.Places.{targets_at}
 use Rattle.code_places.proofs.MarkLaws.{marks_none, marks_more, marks_done}

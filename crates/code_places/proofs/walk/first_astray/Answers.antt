@@ -1,4 +1,4 @@
-use Rattle.std.proofs.Common.{◌≡◌, ◌≤◌, length, refl, sym, arith}
+use Rattle.std.proofs.Common.{◌≤◌, length, refl, sym, arith}
 use Rattle.code_places.specs.Places.{first_astray}
 use Rattle.code_places.proofs.WalkLaws.{past_end, at_fault, goes_on_well, goes_astray, none_astray}
 use Rattle.code_places.proofs.walk.first_astray.Goals as goal

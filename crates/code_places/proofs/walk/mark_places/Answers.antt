@@ -1,7 +1,7 @@
-use Rattle.std.proofs.Common.{◌≡◌, ◌≤◌, length, [], ◌∷◌, refl, sym, subst, arith}
+use Rattle.std.proofs.Common.{◌≤◌, length, [], ◌∷◌, refl, sym, subst, arith}
 use Rattle.code_places.specs.Marks.{Marks}
 use Rattle.code_places.specs.Places.{targets_at, end_of}
-use Rattle.code_places.proofs.WalkLaws.{Ends, past_end, at_fault, start, leads_none, leads_on, leads_end, starts_end, end_on, end_there}
+use Rattle.code_places.proofs.WalkLaws.{past_end, at_fault, start, leads_none, leads_on, leads_end, starts_end, end_on, end_there}
 use Rattle.code_places.proofs.walk.mark_places.Goals as goal
 
 pub walk-init : goal.walk-init

@@ -1,6 +1,5 @@
-use Rattle.std.proofs.Common.{◌≡◌, Option, Some, None, refl, sym, ap, ◌∙◌}
+use Rattle.std.proofs.Common.{◌≡◌, Some, None, refl, sym, ap, ◌∙◌}
 use Rattle.std.specs.Option.{option_map}
-use Rattle.cil_code.specs.declared.fault.CodeFault.{CodeFault}
 use Rattle.cil_code.specs.Bodies.{BodyPart}
 use Rattle.cil_code.specs.Walk.{code_fault}
 use Rattle.code_places.specs.Places.{first_astray}
