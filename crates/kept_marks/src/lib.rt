@@ -1,0 +1,7 @@
+//! Which rows of a set of assemblies are kept, and their numbers among those kept of their tables.
+#![tactic(auto)]
+
+mod kept;
+mod ranks;
+
+pub use kept::Kept;
