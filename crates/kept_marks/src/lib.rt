@@ -2,6 +2,7 @@
 #![tactic(auto)]
 
 mod kept;
+pub mod law;
 mod ranks;
 
 pub use kept::Kept;
