@@ -11,7 +11,6 @@ use Rattle.assemblies.specs.Binding.{holds}
 use Rattle.row_owners.specs.declared.find.Span.{Span}
 use Rattle.row_owners.specs.Owners.{claimed, has_row, first_span}
 
-
 next : {A : Type 0} (xs : List A) (n : ℕ) (x : A) → slice_get xs n ≡ Some x → take (suc n) xs ≡ take n xs ++ x ∷ []
 next [] n x e = absurd (cc e)
 next (y ∷ ys) zero x e = let same : y ≡ x = cc e in ap (λ z. z ∷ []) same

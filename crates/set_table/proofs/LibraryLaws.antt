@@ -1,18 +1,16 @@
 -- The first assembly of the base library's name, and the sum of types and references, an image after the other.
-use Rattle.std.proofs.Common.{◌≡◌, ℕ, zero, suc, ◌+◌, ◌*◌, ◌≤◌, Bool, true, false, List, [], ◌∷◌, ◌++◌, map, length, take, drop, Option, Some, None, refl, sym, ap, ◌∙◌, arith, add-one}
+use Rattle.std.proofs.Common.{◌≡◌, ℕ, zero, suc, ◌+◌, ◌*◌, ◌≤◌, Bool, true, false, List, [], ◌∷◌, ◌++◌, length, take, drop, Option, Some, None, refl, sym, ap, ◌∙◌, arith, add-one}
 use Rattle.std.specs.Prelude.{codes, slice_get, if◌then◌else◌}
 use Rattle.std.specs.Option.{option_map}
-use Rattle.std.proofs.lemmas.List.{length-map}
 use Rattle.std.proofs.lemmas.Option.{slice_get-map}
 use Rattle.machine.specs.Texts.{same_text}
 use Rattle.assemblies.specs.Rows.{Assembly}
-use Rattle.assemblies.specs.Binding.{first_number}
 use Rattle.image_bytes.specs.Layout.{Image}
 use Rattle.world_rows.specs.World.{type_count, reference_count, size_of}
 use Rattle.scope_walk.proofs.Lists.{none_past}
 use Rattle.tiny_rows.specs.Rows.{rows_seen}
 use Rattle.set_names.specs.Names.{seen_all}
-use Rattle.set_names.proofs.IndexLaws.{take_next, take_whole}
+use Rattle.set_names.proofs.IndexLaws.{take_next}
 use Rattle.set_table.specs.Whole.{library_number}
 
 -- the assemblies from a number on
@@ -67,9 +65,6 @@ module _ (images : List Image) (n : ℕ) where
       go None = refl
       go (Some k) = let same : n + suc k ≡ suc n + k = omega arith in ap Some same
 
-  pub library_past : length images ≤ n → library_from (seen_all images) n ≡ None
-  library_past h = let many = length-map images rows_seen in ap (λ ps. option_map (λ k. n + k) (library_number ps)) (drop_past (seen_all images) n (omega arith))
-
   pub library_none : None ≡ slice_get images n → library_from (seen_all images) n ≡ None
   library_none e = ap (λ ps. option_map (λ k. n + k) (library_number ps)) (drop_past (seen_all images) n (past e))
 
@@ -79,9 +74,3 @@ module _ (images : List Image) (n : ℕ) where
       let types = types_more (take n (seen_all images)) (rows_seen i) in
       let references = references_more (take n (seen_all images)) (rows_seen i) in
       ap size_of (take_next (seen_all images) n (rows_seen i) (there i e)) ∙ omega (arith, types, references)
-
-  pub size_all : length images ≤ n → size_of (take n (seen_all images)) ≡ size_of (seen_all images)
-  size_all h = let many = length-map images rows_seen in ap size_of (take_whole (seen_all images) n (omega arith))
-
-  pub size_end : None ≡ slice_get images n → size_of (take n (seen_all images)) ≡ size_of (seen_all images)
-  size_end e = ap size_of (take_whole (seen_all images) n (past e))

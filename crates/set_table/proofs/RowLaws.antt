@@ -1,8 +1,7 @@
 -- The rows of an image as those of its set, one after the other.
-use Rattle.std.proofs.Common.{◌≡◌, ℕ, zero, suc, ◌+◌, ◌<◌, ◌≤◌, List, [], ◌∷◌, ◌++◌, map, length, take, get_or, Option, Some, None, refl, sym, ap, ◌∙◌, arith}
+use Rattle.std.proofs.Common.{◌≡◌, ℕ, zero, suc, ◌+◌, ◌<◌, List, [], ◌∷◌, ◌++◌, length, take, Option, Some, None, refl, sym, ap, ◌∙◌, arith}
 use Rattle.std.specs.Prelude.{slice_get}
 use Rattle.std.specs.Option.{option_map}
-use Rattle.std.proofs.lemmas.Option.{slice_get-get_or, slice_get_within}
 use Rattle.machine.specs.Throw.{on_some}
 use Rattle.machine.specs.Data.{Id}
 use Rattle.classes.specs.Classes.{SigType, Signature, OwnField, OwnMethod}
@@ -27,18 +26,10 @@ use Rattle.set_table.specs.Subject.{IsSubject, class_in, outline_in, field_in, m
 
 -- ---- a row that is there
 
-pub there_not : {A : Type 0} (xs : List A) (n : ℕ) → n < length xs → None ≡ slice_get xs n → ⊥
-there_not [] n h e = omega arith
-there_not (x ∷ xs) zero h e = cc e
-there_not (x ∷ xs) (suc n) h e = there_not xs n (omega arith) e
-
 got : {A : Type 0} (xs : List A) (n : ℕ) → n < length xs → (x : A) × (slice_get xs n ≡ Some x)
 got [] n h = absurd (omega arith)
 got (x ∷ xs) zero h = (x, refl)
 got (x ∷ xs) (suc n) h = got xs n (omega arith)
-
-pub there_not_made : {A B : Type 0} (f : A → B) (xs : List A) (n : ℕ) → n < length xs → None ≡ option_map f (slice_get xs n) → ⊥
-there_not_made f xs n h e = let g = got xs n h in let none : None ≡ Some (f g.0) = e ∙ ap (option_map f) g.1 in cc none
 
 -- what is made of a signature that is read is made of one that is there
 read_there : {S R : Type 0} (o : Option S) (make : S → R) (y : R) → option_map make o ≡ Some y → (s : S) × (o ≡ Some s) × (make s ≡ y)

@@ -1,5 +1,5 @@
 -- What the tokens of an image of a set name, and the interfaces that its rows name.
-use Rattle.std.proofs.Common.{◌≡◌, ℕ, zero, suc, ◌+◌, ◌-◌, ◌<◌, ◌≤◌, ◌⊎◌, inl, inr, Bool, true, false, List, [], ◌∷◌, ◌++◌, map, length, take, drop, Option, Some, None, refl, sym, ap, ◌∙◌, arith, add-one}
+use Rattle.std.proofs.Common.{◌≡◌, ℕ, zero, suc, ◌+◌, ◌<◌, ◌≤◌, ◌⊎◌, inl, inr, Bool, true, false, List, [], ◌∷◌, ◌++◌, map, length, take, drop, Some, None, refl, sym, ap, ◌∙◌, arith, add-one}
 use Rattle.std.specs.Prelude.{IsSome, nat_lt, slice_get, if◌then◌else◌}
 use Rattle.std.specs.List.{filter_map, cons_option}
 use Rattle.std.specs.Option.{option_map, option_map_or}
@@ -12,7 +12,7 @@ use Rattle.machine.specs.Throw.{on_some}
 use Rattle.assemblies.specs.Rows.{Assembly, TypeToken, TypeDef, TypeRef, TypeSpec}
 use Rattle.assemblies.specs.Binding.{id_at}
 use Rattle.image_form.specs.Signatures.{type_token}
-use Rattle.image_form.specs.Form.{checked, no_spec, part}
+use Rattle.image_form.specs.Form.{checked, no_spec}
 use Rattle.member_keys.specs.declared.keys.ClassId.{ClassId}
 use Rattle.member_keys.specs.Seen.{class_seen}
 use Rattle.scope_walk.specs.Walk.{value_at}

@@ -1,5 +1,5 @@
 -- A table whose parts say what a set's assemblies do tells the set's classes.
-use Rattle.std.proofs.Common.{◌≡◌, ℕ, zero, suc, ◌+◌, ◌<◌, ◌≤◌, List, [], ◌∷◌, ◌++◌, map, length, take, drop, Option, Some, None, refl, sym, ap, ◌∙◌, ◌⊎◌, inl, inr, subst, arith}
+use Rattle.std.proofs.Common.{◌≡◌, ℕ, zero, suc, ◌+◌, List, [], ◌∷◌, ◌++◌, map, length, take, drop, Option, Some, None, refl, sym, ap, ◌∙◌, ◌⊎◌, inl, inr, subst, arith}
 use Rattle.std.specs.Prelude.{codes, slice_get, unwrap_or}
 use Rattle.std.specs.Option.{option_map}
 use Rattle.std.specs.List.{position}
@@ -8,7 +8,7 @@ use Rattle.std.proofs.lemmas.Option.{slice_get-map, slice_get_within}
 use Rattle.machine.specs.Data.{Id}
 use Rattle.machine.specs.Texts.{same_text}
 use Rattle.machine.specs.Throw.{on_some}
-use Rattle.classes.specs.Classes.{OwnField, OwnMethod, Class, Classes}
+use Rattle.classes.specs.Classes.{OwnField, OwnMethod, Class}
 use Rattle.assemblies.specs.Rows.{Assembly, TypeRow}
 use Rattle.assemblies.specs.Binding.{id_at, numbered, range, own_field, own_method, class_with, class_at, holds, first_number, library, classes_of}
 use Rattle.assemblies.specs.Binding as binding
@@ -20,7 +20,7 @@ use Rattle.class_table.specs.declared.rows.FileRows.{FileRows}
 use Rattle.class_table.specs.declared.rows.ClassTable.{ClassTable}
 use Rattle.class_table.specs.Seen.{field_seen, method_seen, row_seen, class_row, field_owner, method_owner, library_rows, classes_seen}
 use Rattle.class_table.specs.Outlines.{Outline, outline_seen, outline_of}
-use Rattle.set_table.specs.Whole.{AreRows, IsSetFile, AreFiles, library_number, IsSetTable}
+use Rattle.set_table.specs.Whole.{AreRows, IsSetFile, AreFiles, IsSetTable}
 
 from_none : (n : ℕ) → 0 + n ≡ n
 from_none n = omega arith

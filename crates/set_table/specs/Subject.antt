@@ -3,7 +3,7 @@ use Rattle.std.specs.Prelude.{◌≡◌, ℕ, List, [], ◌∷◌, Option, Some,
 use Rattle.std.specs.List.{filter_map}
 use Rattle.machine.specs.Data.{Id}
 use Rattle.classes.specs.Classes.{OwnField, OwnMethod}
-use Rattle.assemblies.specs.Rows.{Assembly, TypeToken, TypeRow, FieldRow, MethodRow}
+use Rattle.assemblies.specs.Rows.{TypeToken, TypeRow, FieldRow, MethodRow}
 use Rattle.assemblies.specs.Binding.{resolve, own_field, own_method}
 use Rattle.world_rows.specs.World.{size_of}
 use Rattle.class_table.specs.declared.rows.ClassRow.{ClassRow}

@@ -32,10 +32,7 @@ pub fn find_named(subject: &Subject<'_, '_, '_>, token: TypeToken) -> Option<Cla
 }
 
 /// The class that a type extends; `None` where it extends none, or none that is there.
-pub fn find_superclass(
-    subject: &Subject<'_, '_, '_>,
-    extends: Option<TypeToken>,
-) -> Option<ClassId>
+pub fn find_superclass(subject: &Subject<'_, '_, '_>, extends: Option<TypeToken>) -> Option<ClassId>
     requires { IsSubject subject.now }
     ensures { option_map class_seen result ≡ on_some (option_map token_seen extends) (class_in subject.now) }
 {

@@ -9,12 +9,12 @@ ghost use Rattle.set_names.specs.Names.{seen_all};
 ghost use Rattle.set_table.specs.Subject.{IsSubject};
 ghost use Rattle.set_table.specs.Whole.{IsSetFile, IsSetTable, IsRead, AreFiles};
 
-use crate::types::read_classes;
 use crate::fields::read_fields;
 use crate::law::whole_set_table;
 use crate::library::{count_types, find_library};
 use crate::methods::read_methods;
 use crate::subject::Subject;
+use crate::types::read_classes;
 use class_table::{ClassTable, FileRows};
 use plain_types::fault::NoMemory;
 use set_names::{Names, resolve_types};
@@ -38,11 +38,7 @@ fn read_rows<'a>(alloc: Global, subject: &Subject<'_, '_, 'a>) -> Result<FileRow
 }
 
 /// What the image of a number says.
-fn read_file<'a>(
-    alloc: Global,
-    names: &Names<'_, 'a>,
-    file: u32,
-) -> Result<FileRows<'a>, NoMemory>
+fn read_file<'a>(alloc: Global, names: &Names<'_, 'a>, file: u32) -> Result<FileRows<'a>, NoMemory>
     requires { file < length names.now }
     ensures { IfOk result (IsSetFile (seen_all names.now) file) }
 {

@@ -1,10 +1,10 @@
 -- The natives by their numbers, and what runs where a method is called.
-use Rattle.std.proofs.Common.{◌≡◌, ℕ, zero, suc, ◌<◌, Bool, true, false, List, [], ◌∷◌, Option, Some, None, refl, sym, ap, ◌∙◌, cond, arith}
-use Rattle.std.specs.Prelude.{nat_eq, if◌then◌else◌, unwrap_or}
+use Rattle.std.proofs.Common.{◌≡◌, ℕ, zero, suc, ◌<◌, false, List, [], ◌∷◌, Option, Some, None, refl, ap, ◌∙◌, cond, arith}
+use Rattle.std.specs.Prelude.{nat_eq, unwrap_or}
 use Rattle.std.specs.List.{find}
 use Rattle.std.specs.Option.{option_map}
 use Rattle.std.proofs.lemmas.Bool.Decides.{nat_tests}
-use Rattle.machine.specs.Program.{Body, Native, Missing, native_number}
+use Rattle.machine.specs.Program.{Native, Missing, native_number}
 use Rattle.image_form.specs.Form.{native_body}
 use Rattle.world_rows.specs.Natives.{NativeRow, natives}
 use Rattle.class_table.specs.Seen.{native_seen}

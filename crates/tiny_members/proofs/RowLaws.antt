@@ -8,8 +8,8 @@ use Rattle.machine.specs.Throw.{on_some}
 use Rattle.machine.specs.Program.{Body, Code, Missing}
 use Rattle.classes.specs.Classes.{FieldKind, DataField, TypeKind}
 use Rattle.image_bytes.specs.Layout.{Image, rows_of, is_range}
-use Rattle.assemblies.specs.Rows.{Assembly, TypeToken, RawType, RawSignature, RawClause, RawCode, FieldRefRow, MethodRefRow, TypeRow, FieldRow, MethodRow}
-use Rattle.image_form.specs.Signatures.{type_token, read_type, read_signature, whole}
+use Rattle.assemblies.specs.Rows.{TypeToken, RawType, RawSignature, RawClause, RawCode, FieldRefRow, MethodRefRow, TypeRow, FieldRow, MethodRow}
+use Rattle.image_form.specs.Signatures.{type_token}
 use Rattle.image_form.specs.Form.{Held, on_both, all_some, none_or, checked, part, bit, static_kind, kind_of, native_body, name_text, name_at, part_at, field_ref_at, method_ref_at, type_at, field_kind_at, field_at, interface_at, data_at, lines_at, body_with, body_at, locals_at, method_at, make_field_ref, make_method_ref, make_type, make_field, make_method}
 use Rattle.image_form.specs.Whole.{table, bytes_at, row_in, token_in, has_row, held, nothing_held, image_rows}
 use Rattle.image_pools.specs.Pools.{text_at}

@@ -1,5 +1,5 @@
 -- The rows of types and members of an image as the rows of an assembly.
-use Rattle.std.specs.Prelude.{ℕ, nat_eq, nat_lt, if◌then◌else◌, List, [], map, Option, Some, None, slice_index}
+use Rattle.std.specs.Prelude.{ℕ, nat_eq, nat_lt, if◌then◌else◌, List, map, Option, Some, None, slice_index}
 use Rattle.std.specs.Option.{option_map}
 use Rattle.machine.specs.Program.{Body, Code, Missing}
 use Rattle.machine.specs.Throw.{on_some}

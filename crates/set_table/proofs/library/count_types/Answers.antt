@@ -1,5 +1,5 @@
-use Rattle.std.proofs.Common.{sym, ◌∙◌, arith}
-use Rattle.set_table.proofs.LibraryLaws.{size_more, size_end}
+use Rattle.std.proofs.Common.{arith}
+use Rattle.set_table.proofs.LibraryLaws.{size_more}
 use Rattle.set_table.proofs.library.count_types.Goals as goal
 
 pub loop-file-preserved : goal.loop-file-preserved

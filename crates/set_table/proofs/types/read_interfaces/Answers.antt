@@ -1,4 +1,4 @@
-use Rattle.std.proofs.Common.{◌≡◌, ◌+◌, ap, ◌∙◌, sym, map, take, drop, arith}
+use Rattle.std.proofs.Common.{◌≡◌, ◌+◌, ap, ◌∙◌, map, take, drop, arith}
 use Rattle.std.specs.List.{filter_map}
 use Rattle.member_keys.specs.Seen.{class_seen}
 use Rattle.tiny_members.specs.Rows.{interfaces_seen}
