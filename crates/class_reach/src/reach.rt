@@ -45,9 +45,9 @@ fn add_level(
     Ok(())
 }
 
-/// The classes and interfaces that a class reaches by superclasses and interfaces in as many steps as the table has
-/// classes, itself first and each once (ECMA-335 II.10.1.3, II.12.2). In the time of what these classes name, but for a
-/// logarithm; ways that go in a circle are walked once.
+/// The classes and interfaces that a class reaches by superclasses and interfaces in at most as many steps as the table's
+/// size, which counts all its types: itself first, each once (ECMA-335 II.10.1.3, II.12.2). In the time of what these
+/// classes name, but for a logarithm; ways that go in a circle are walked once.
 pub fn reached(
     alloc: Global,
     table: &ClassTable<'_>,
