@@ -20,6 +20,6 @@ pub use signatures::{
     signature_fits,
 };
 pub use supers::{
-    extends_well, is_enclosed_well, is_sub, may_be_extended, may_be_implemented, under_object,
+    extends_well, find_under, is_enclosed_well, may_be_extended, may_be_implemented, under_object,
 };
 pub use values::{has_no_field, has_no_instance_field, value_well};
