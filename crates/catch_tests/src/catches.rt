@@ -18,7 +18,8 @@ ghost use Rattle.code_tests.specs.Tests.{handles_well};
 
 use cil_code::Clause;
 use cil_world::World;
-use class_checks::{is_class, is_sub, library_class};
+use class_checks::{is_class, library_class};
+use class_queries::is_sub;
 use class_table::ClassTable;
 use ecma_types::id::TypeId;
 use member_keys::ClassId;

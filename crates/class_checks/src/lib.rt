@@ -20,7 +20,7 @@ pub use signatures::{
     signature_fits,
 };
 pub use supers::{
-    extends_well, is_class, is_enclosed_well, is_sub, may_be_extended, may_be_implemented,
+    extends_well, find_under, is_class, is_enclosed_well, may_be_extended, may_be_implemented,
     under_object,
 };
 pub use values::{has_no_field, has_no_instance_field, value_well};

@@ -15,4 +15,6 @@ pub struct Setting<'t, 'a> {
     pub interfaces: &'t Heights,
     /// Out of nested types.
     pub around: &'t Heights,
+    /// Which classes are Object or below it, by their numbers.
+    pub under: &'t [Option<bool>],
 }

@@ -1,29 +1,29 @@
 //! Rules on superclasses and interfaces (ECMA-335 II.22.37, II.22.23).
 
-ghost use Rattle.std.specs.Prelude.{◌≡◌, ℕ, ◌&&◌, ◌||◌, codes, [], Some, None};
+ghost use Rattle.std.specs.Prelude.{◌≡◌, ℕ, ◌&&◌, ◌||◌, codes, [], IfOk, Some, None};
 ghost use Rattle.std.specs.Option.{option_map};
 ghost use Rattle.plain_types.specs.declared.elem.Elem.TheVariants as elem;
-ghost use Rattle.machine.specs.Data.{id_eq};
+ghost use Rattle.machine.specs.Data.{Id};
 ghost use Rattle.machine.specs.Texts.{same_text};
-ghost use Rattle.classes.specs.Queries.{above, basic, ends, interfaces_of, is_sub, some_eq};
+ghost use Rattle.classes.specs.Queries.{above, basic, ends, interfaces_of, some_eq};
 ghost use Rattle.member_keys.specs.Seen.{class_seen};
 ghost use Rattle.class_table.specs.declared.rows.FileRows.{FileRows};
 ghost use Rattle.class_table.specs.Seen.{classes_seen, row_seen};
 ghost use Rattle.class_rules.specs.Rules.{may_be_extended, is_enclosed_well, is_module, superclass_fits, extends_well, may_be_implemented, under_object};
+ghost use Rattle.class_queries.specs.declared.chains.Way.TheVariants as way;
+ghost use Rattle.class_queries.specs.Heights.{AreHeights};
+ghost use Rattle.class_queries.specs.Below.{AreBelow};
+ghost use Rattle.class_checks.specs.Library.{IsLibrary};
 ghost use Rattle.class_checks.specs.Setting.{IsSetting};
 
+use crate::library::Library;
 use crate::places::{is_reference_class, is_user};
 use crate::setting::Setting;
-use class_queries::{ends, find_class, is_interface, superclass};
+use class_queries::{Heights, classes_below, ends, find_class, is_below, is_interface};
 use class_table::{ClassRow, ClassTable};
 use member_keys::ClassId;
-
-/// Whether two classes are the same.
-fn is_same(a: ClassId, b: ClassId) -> bool
-    ensures { result ≡ id_eq (class_seen a) (class_seen b) }
-{
-    a == b
-}
+use plain_types::fault::NoMemory;
+use std::alloc::Global;
 
 /// Whether a class is one that the base library may have.
 pub fn is_class(known: Option<ClassId>, class: ClassId) -> bool
@@ -147,30 +147,36 @@ pub fn is_enclosed_well(setting: &Setting<'_, '_>, class: ClassId, most: u64) ->
     ends(setting.around, setting.table, class, most)
 }
 
-/// Whether a class is the other one, or below it. It goes up at most as many classes as the table has.
-pub fn is_sub(table: &ClassTable<'_>, class: ClassId, other: ClassId) -> bool
-    ensures { result ≡ is_sub (classes_seen table.now) (class_seen class) (class_seen other) }
-{
-    let mut class = class;
-    for _step in 0..table.size {
-        if is_same(class, other) {
-            return true;
-        }
-        match superclass(table, class) {
-            Some(next) => class = next,
-            None => return false,
-        }
-    }
-    is_same(class, other)
-}
-
 /// Whether a class is Object or below it.
 pub fn under_object(setting: &Setting<'_, '_>, class: ClassId) -> bool
     requires { IsSetting setting.now }
     ensures { result ≡ under_object (classes_seen setting.now.table.now) (class_seen class) }
 {
     match setting.library.object {
-        Some(object) => is_sub(setting.table, class, object),
+        Some(object) => is_below(
+            setting.under,
+            &setting.above.numbers,
+            setting.table,
+            class,
+            object,
+        ),
         None => false,
+    }
+}
+
+/// Which classes of a table are Object or below it, by their numbers: in the time of the number of classes.
+pub fn find_under(
+    alloc: Global,
+    table: &ClassTable<'_>,
+    library: Library,
+    above: &Heights,
+) -> Result<Vec<Option<bool>>, NoMemory>
+    requires library { IsLibrary table.now library }
+    requires above { AreHeights table.now way.Above above.now }
+    ensures { IfOk result (λ under. (object : Id) → basic (classes_seen table.now) elem.Object ≡ Some object → AreBelow table.now object under.items) }
+{
+    match library.object {
+        Some(object) => classes_below(alloc, table, above, object),
+        None => Ok(Vec::new(alloc)),
     }
 }

@@ -12,8 +12,7 @@ ghost use Rattle.class_order.specs.Types.{AreOrdered};
 
 use crate::basic::{BasicClasses, find_basic};
 use crate::chains::is_same;
-use class_checks::is_sub;
-use class_queries::is_interface;
+use class_queries::{is_interface, is_sub};
 use class_reach::reached;
 use class_table::ClassTable;
 use member_keys::ClassId;

@@ -66,6 +66,11 @@ module _ (t : ClassTable) where
           let within = slice_get_within (first_classes t n) (start_at t k + row) (id_at k row) there in
           get_left (first_classes t n) (file_classes n (count_at t n)) (start_at t k + row) within ∙ there
 
+  pub class_of_number : (c : Id) → is_some (found_row t c) ≡ true → slice_get (all_classes t) (number_of t c) ≡ Some c
+  class_of_number c found =
+      let within = row_within t c found in
+      ap (slice_get (all_classes t)) (number_found t c found) ∙ in_first (length t.files.items) c.file c.row within.0 within.1
+
   past_all : (a : ℕ) → length (all_classes t) ≤ a → slice_get (all_classes t) a ≡ None
   past_all a high = go (slice_get (all_classes t) a) refl
     where

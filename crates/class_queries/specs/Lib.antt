@@ -4,3 +4,4 @@ pub mod Chains
 pub mod Edges
 pub mod Graph
 pub mod Heights
+pub mod Below

@@ -5,7 +5,7 @@ ghost use Rattle.std.specs.Prelude.{◌≡◌, IfOk};
 ghost use Rattle.verdict_rules.specs.Verdict.{profile};
 
 use cil_world::World;
-use class_checks::{Setting, find_library};
+use class_checks::{Setting, find_library, find_under};
 use class_queries::{Way, chain_heights};
 use plain_types::fault::{Fault, NoMemory};
 use profile_order::{profile_fault, read_judge};
@@ -21,12 +21,15 @@ pub fn check(alloc: Global, world: &World<'_>) -> Result<Option<Fault>, NoMemory
     let above = chain_heights(alloc, table, Way::Above)?;
     let interfaces = chain_heights(alloc, table, Way::Interfaces)?;
     let around = chain_heights(alloc, table, Way::Around)?;
+    let library = find_library(table);
+    let under = find_under(alloc, table, library, &above)?;
     let setting = Setting {
         table,
-        library: find_library(table),
+        library,
         above: &above,
         interfaces: &interfaces,
         around: &around,
+        under: &under,
     };
     let subject = Subject { world, setting };
     let judge = read_judge(alloc, &subject)?;

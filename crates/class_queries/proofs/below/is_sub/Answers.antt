@@ -2,8 +2,8 @@ use Rattle.std.proofs.Common.{◌≡◌, ◌∙◌, suc, ◌+◌, ◌-◌, sym, 
 use Rattle.std.specs.Option.{option_map}
 use Rattle.member_keys.specs.Seen.{class_seen}
 use Rattle.class_table.specs.Seen.{classes_seen}
-use Rattle.class_checks.proofs.SuperLaws.{reach_here, reach_up, reach_top}
-use Rattle.class_checks.proofs.supers.is_sub.Goals as goal
+use Rattle.class_queries.proofs.SubLaws.{reach_here, reach_up, reach_top}
+use Rattle.class_queries.proofs.below.is_sub.Goals as goal
 
 pub returns-then-is_same : goal.returns-then-is_same
 returns-then-is_same c =

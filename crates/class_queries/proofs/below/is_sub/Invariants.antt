@@ -2,7 +2,7 @@ use Rattle.std.proofs.Common.{◌≡◌, ℕ, ◌+◌}
 use Rattle.classes.specs.Queries.{above, is_sub, reaches}
 use Rattle.member_keys.specs.Seen.{class_seen}
 use Rattle.class_table.specs.Seen.{classes_seen}
-use Rattle.class_checks.proofs.supers.is_sub.Given as goal
+use Rattle.class_queries.proofs.below.is_sub.Given as goal
 
 abbrev pub invariant-loop-step : goal.invariant-loop-step
 invariant-loop-step l =
