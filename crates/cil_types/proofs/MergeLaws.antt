@@ -1,6 +1,6 @@
 -- What two types leave where neither is assignable to the other, and where one is.
-use Rattle.std.proofs.Common.{◌≡◌, ◌⊎◌, inl, inr, ℕ, zero, suc, ◌<◌, ◌≤◌, Bool, true, false, Option, Some, None, refl, sym, ap, ◌∙◌, subst, arith}
-use Rattle.std.specs.Prelude.{◌||◌, if◌then◌else◌}
+use Rattle.std.proofs.Common.{◌≡◌, ◌⊎◌, inl, inr, ℕ, zero, suc, ◌<◌, Bool, true, false, Option, Some, None, refl, sym, ap, ◌∙◌, arith}
+use Rattle.std.specs.Prelude.{if◌then◌else◌}
 use Rattle.std.proofs.lemmas.Bool.{cases_Bool, both_ways}
 use Rattle.ecma_types.specs.declared.stack.PlaceType.{PlaceType as WorldPlace}
 use Rattle.machine.specs.Data.{Id, Cell, Bits, Refers, CliType, Basic, EnumOf, ClassOf, ValueOf, ArrayOf, cell_of, type_eq}

@@ -1,11 +1,9 @@
 -- Types of the world with rows from 0: what they are inside the brackets, and what their places hold.
-use Rattle.std.proofs.Common.{◌≡◌, ℕ, zero, suc, ◌+◌, ◌-◌, ◌≤◌, ◌<◌, Bool, true, false, Some, refl, sym, ap, ◌∙◌, arith}
-use Rattle.plain_types.specs.declared.elem.Elem.TheVariants as elem
+use Rattle.std.proofs.Common.{◌≡◌, ℕ, zero, suc, ◌+◌, ◌-◌, ◌<◌, false, refl, sym, ap, ◌∙◌, arith}
 use Rattle.ecma_types.specs.declared.id.TypeId.{TypeId}
 use Rattle.ecma_types.specs.declared.stack.PlaceType.{PlaceType as WorldPlace}
-use Rattle.machine.specs.Data.{Id, CliType, Basic, EnumOf, ClassOf, ValueOf, ArrayOf, Refers, cell_of, type_eq}
-use Rattle.member_keys.specs.Seen.{class_seen}
-use Rattle.place_types.specs.Types.{arrays, base_type, id_down, id_of, type_down, type_of}
+use Rattle.machine.specs.Data.{CliType, Basic, EnumOf, ClassOf, ValueOf, ArrayOf, cell_of, type_eq}
+use Rattle.place_types.specs.Types.{arrays, base_type, id_down, id_of, type_down}
 use Rattle.class_order.specs.declared.types.BaseType.{BaseType}
 use Rattle.class_order.specs.declared.types.BaseType.TheVariants as base
 use Rattle.class_order.specs.Types.{base_seen}

@@ -1,12 +1,12 @@
 -- What the spellings of types of classes are.
-use Rattle.std.proofs.Common.{◌≡◌, ◌⊎◌, inl, inr, ℕ, ◌<◌, List, Bool, true, false, Option, Some, None, refl, sym, ap, ◌∙◌, subst, arith}
+use Rattle.std.proofs.Common.{◌≡◌, ◌⊎◌, inl, inr, ℕ, ◌<◌, List, true, false, Option, Some, None, refl, sym, ap, ◌∙◌, arith}
 use Rattle.std.specs.Prelude.{is_some, nat_eq}
 use Rattle.std.proofs.lemmas.Bool.{and_parts, cases_Bool, eqb-true}
 use Rattle.std.specs.Option.{option_map}
 use Rattle.plain_types.specs.declared.elem.Elem.{Elem}
 use Rattle.plain_types.specs.declared.elem.Elem.TheVariants as elem
 use Rattle.ecma_types.specs.declared.id.TypeId.{TypeId}
-use Rattle.machine.specs.Data.{Id, CliType, Basic, EnumOf, ClassOf, ValueOf, ArrayOf}
+use Rattle.machine.specs.Data.{Id, Basic, EnumOf}
 use Rattle.classes.specs.Classes.{Classes, Class, TypeKind, Reference, Builtin, Enumeration, OtherValue}
 use Rattle.classes.specs.Queries.{basic_name, is_integer, kind_of, library_class, own_instance_fields, type_by_kind, type_of_class}
 use Rattle.classes.specs.Reading.{IsRead}

@@ -1,11 +1,9 @@
 use Rattle.std.proofs.Common.{◌≡◌, ◌⊎◌, inl, inr, ◌∙◌, ◌<◌, ◌≤◌, sym, subst, arith, Bool}
 use Rattle.std.specs.Prelude.{IfOk}
 use Rattle.std.proofs.lemmas.Bool.{cases_lt}
-use Rattle.machine.specs.Data.{cell_of, type_eq}
-use Rattle.classes.specs.Queries.{array, class_of, fits, is_object, some_eq}
+use Rattle.classes.specs.Queries.{fits}
 use Rattle.class_table.specs.Seen.{classes_seen}
-use Rattle.class_order.specs.Types.{base_seen}
-use Rattle.cil_types.specs.Rows.{base_in, type_in}
+use Rattle.cil_types.specs.Rows.{type_in}
 use Rattle.cil_types.proofs.FitLaws.{fewer_brackets, more_brackets, no_brackets, one_wanted, same_brackets}
 use Rattle.cil_types.proofs.fits.references_fit.Goals as goal
 
