@@ -3,10 +3,7 @@
 
 pub mod effect;
 pub mod facts;
-pub mod given;
-pub mod judge;
 pub mod law;
 pub mod members;
-pub mod row;
 pub mod table;
 pub mod typed;

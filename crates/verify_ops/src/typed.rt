@@ -5,7 +5,6 @@ ghost use Rattle.cil_opcodes.specs.declared.shape.Shape.TheVariants as shape;
 ghost use Rattle.verify_ops.specs.Acts.{Chosen, NamesPlain, NamesNumber, NamesElement, FindsMemory, FindsElement};
 
 use crate::facts::{Facts, Operand};
-use crate::row::{Act, Element, Given, Memory, Pair, Rest, Row, Single, Wants};
 use crate::table::WRONG_OPERAND;
 use cil_opcodes::shape::Access;
 use ecma_types::id::TypeId;
@@ -13,6 +12,7 @@ use ecma_types::stack::{PlaceType, StackType};
 use place_types::held::{ArrayOperand, Held};
 use place_types::types::{array_of, is_number, is_plain, pointee, value_type};
 use plain_types::elem::Elem;
+use stack_acts::row::{Act, Element, Given, Memory, Pair, Rest, Row, Single, Wants};
 
 // The types below are kept.
 macro_rules! keeps {

@@ -7,10 +7,10 @@ ghost use Rattle.machine.specs.Throw.{on_some};
 ghost use Rattle.machine_typed.specs.Typing.{all_assignable, when, loaded as loaded_as, compares_references as may_compare, branches_on_references as may_branch};
 ghost use Rattle.classes.specs.Queries.{listed};
 ghost use Rattle.place_types.specs.Types.{stack_of, place_of, Agrees};
-ghost use Rattle.verify_ops.specs.Acts.{gives_by, types_given, single_by, pair_by, store_by, one_of, two_of, three_of, ElementSpelt, PairSpelt, IsSpelt};
+ghost use Rattle.stack_acts.specs.Acts.{gives_by, types_given, single_by, pair_by, store_by, one_of, two_of, three_of, ElementSpelt, PairSpelt, IsSpelt};
 ghost use Rattle.place_types.specs.Held.{IsArrayOf};
-ghost use Rattle.verify_ops.specs.declared.row.Pair.TheVariants as pair;
-ghost use Rattle.verify_ops.specs.declared.row.Single.TheVariants as single;
+ghost use Rattle.stack_acts.specs.declared.row.Pair.TheVariants as pair;
+ghost use Rattle.stack_acts.specs.declared.row.Single.TheVariants as single;
 
 use crate::judge::{
     accessed, all_fit, array_takes, element_loaded, element_takes, fits_some, meets, pointer_takes,

@@ -2,7 +2,7 @@ use Rattle.std.proofs.Common.{◌≡◌, map, drop}
 use Rattle.machine.specs.Program.{Program}
 use Rattle.machine_typed.specs.Typing.{all_assignable, loaded}
 use Rattle.place_types.specs.Types.{Agrees, place_of, stack_of}
-use Rattle.verify_ops.proofs.judge.all_fit.Given as goal
+use Rattle.stack_acts.proofs.judge.all_fit.Given as goal
 
 abbrev pub invariant-loop-i : goal.invariant-loop-i
 invariant-loop-i g l =

@@ -5,7 +5,7 @@ ghost use Rattle.ecma_types.specs.declared.stack.StackType.TheVariants as world;
 ghost use Rattle.machine.specs.Program.{Program};
 ghost use Rattle.machine_typed.specs.Typing.{assignable, all_assignable, has_width, pointer_takes as may_point, accessed as accessed_as, array_takes as may_take, element_loaded as loaded_from, element_takes as may_store, loaded as loaded_as};
 ghost use Rattle.place_types.specs.Types.{type_of, place_of, stack_of, stack_or_never, Agrees};
-ghost use Rattle.verify_ops.specs.Acts.{meets as is_met, access_by, element_by, ElementSpelt};
+ghost use Rattle.stack_acts.specs.Acts.{meets as is_met, access_by, element_by, ElementSpelt};
 ghost use Rattle.place_types.specs.Held.{cell_by, array_by, FoundSpelt};
 
 use crate::row::{Element, Memory, Wants};
@@ -60,7 +60,7 @@ fn fits<T: Lattice>(
 }
 
 /// The same of a type that there may not be.
-#[tactic(auto, using(crate::proofs::Judging::never_fits))]
+#[tactic(auto, using(crate::proofs::Fits::never_fits))]
 pub fn fits_some<T: Lattice>(
     alloc: Global,
     from: &StackType,
