@@ -11,7 +11,7 @@ mod supers;
 mod values;
 
 pub use entry::{entry_well, is_main};
-pub use library::{Library, find_library};
+pub use library::{Library, find_library, library_class};
 pub use members::{field_stands_well, method_stands_well};
 pub use places::{is_number_class, is_reference_class, is_user};
 pub use setting::Setting;
@@ -20,6 +20,7 @@ pub use signatures::{
     signature_fits,
 };
 pub use supers::{
-    extends_well, find_under, is_enclosed_well, may_be_extended, may_be_implemented, under_object,
+    extends_well, find_under, is_class, is_enclosed_well, may_be_extended, may_be_implemented,
+    under_object,
 };
 pub use values::{has_no_field, has_no_instance_field, value_well};

@@ -68,8 +68,8 @@ fn class_in(table: &ClassTable<'_>, file: u32, name: &str) -> Option<ClassId>
     }
 }
 
-/// The first class of the library's file with a name in the namespace System.
-fn library_class(table: &ClassTable<'_>, name: &str) -> Option<ClassId>
+/// The first class of the base library's file with a name in the namespace System, in a table of fewer than 2^32 classes.
+pub fn library_class(table: &ClassTable<'_>, name: &str) -> Option<ClassId>
     requires { total_of table.now < 2 ^ 32 }
     ensures { option_map class_seen result ≡ library_class (classes_seen table.now) name.now }
 {

@@ -7,7 +7,7 @@ mod graph;
 mod numbers;
 mod rows;
 
-pub use below::{classes_below, is_below};
+pub use below::{classes_below, is_below, is_sub};
 pub use chains::{Heights, Way, chain_heights, ends};
 pub use numbers::Numbers;
 pub use rows::{enclosing, find_class, interfaces, is_interface, kind, superclass};

@@ -7,4 +7,4 @@ mod parts;
 mod tokens;
 
 pub use member::{field_type, method_signature};
-pub use tokens::Tokens;
+pub use tokens::{Tokens, class_of, element_at};

@@ -13,20 +13,13 @@ use Rattle.machine.specs.Throw.{on_some}
 use Rattle.machine.specs.Rows.{take_arguments}
 use Rattle.machine_typed.specs.Typing.{StackType, Never, assignable, all_assignable, loaded}
 use Rattle.code_rules.specs.Rows.{Rest, Keeps, Drops, WantsNone, behind, too_deep, not_alone, wrong, or_broken, over, or_short}
-use Rattle.verify_ops.specs.declared.row.Rest.{Rest as CodeRest}
-use Rattle.verify_ops.specs.declared.row.Rest.TheVariants as rest
-use Rattle.verify_ops.specs.declared.row.Row.{Row as CodeRow}
-use Rattle.verify_ops.specs.Types.{stack_of, place_of, from_top}
+use Rattle.stack_acts.specs.declared.row.Rest.{Rest as CodeRest}
+use Rattle.stack_acts.specs.declared.row.Rest.TheVariants as rest
+use Rattle.stack_acts.specs.declared.row.Row.{Row as CodeRow}
+use Rattle.place_types.specs.Types.{stack_of, place_of, from_top}
 use Rattle.verify_ops.specs.Effects.{lowest_of, loads, is_never}
-use Rattle.verify_ops.specs.Acts.{rest_by, gives_by, deeper, passes_max, is_left, kept_by, kept_below, judged_by}
-
-pub never_fits : (p : Program) (t : WorldType) → assignable p (stack_of t) Never ≡ false
-never_fits p world.I = refl
-never_fits p world.L = refl
-never_fits p world.Null = refl
-never_fits p (world.O t) = refl
-never_fits p (world.Pointer t) = refl
-never_fits p world.H = refl
+use Rattle.verify_ops.specs.Acts.{deeper, passes_max, is_left, kept_by, kept_below, judged_by}
+use Rattle.stack_acts.specs.Acts.{rest_by, gives_by}
 
 -- ---- what is taken off a stack
 
@@ -68,22 +61,6 @@ taken n xs h =
     ∙ (ap (λ ts. take_arguments (length rs) ts []) (types_split k xs)
     ∙ (take_all rs zs []
     ∙ ap (λ x. Some (record { arguments = x; rest = zs })) back))
-
--- lists of different lengths don't fit
-pub unequal : (p : Program) (us vs : List StackType) → (length us ≡ length vs → ⊥) → all_assignable p us vs ≡ false
-unequal p [] [] h = absurd (h refl)
-unequal p [] (v ∷ vs) h = refl
-unequal p (u ∷ us) [] h = refl
-unequal p (u ∷ us) (v ∷ vs) h = both (assignable p u v) (unequal p us vs (λ e. h (ap suc e)))
-  where
-    both : (b : Bool) {c : Bool} → c ≡ false → (b && c) ≡ false
-    both true e = e
-    both false e = refl
-
-pub unequal_types : (p : Program) (from : List WorldType) (to : List WorldPlace) → (length from ≡ length to → ⊥) → false ≡ all_assignable p (map stack_of from) (map loaded (map place_of to))
-unequal_types p from to h =
-    sym (unequal p (map stack_of from) (map loaded (map place_of to))
-    (λ e. h (sym (length-map from stack_of) ∙ (e ∙ (length-map (map place_of to) loaded ∙ length-map to place_of)))))
 
 -- ---- the lowest rule
 

@@ -1,4 +1,2 @@
-pub mod Places
-pub mod Spellings
 pub mod Choices
 pub mod Judging

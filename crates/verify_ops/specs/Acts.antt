@@ -1,132 +1,48 @@
 -- The rows of the code as the machine's.
 use Rattle.std.specs.Prelude.{◌≡◌, ℕ, ℤ, Bool, true, false, ◌+◌, ◌-◌, ◌&&◌, ◌||◌, nat_lt, take, List, [], ◌∷◌, ◌++◌, map, length, Option, Some, None, Result, Ok, Err}
 use Rattle.std.specs.Option.{option_map}
-use Rattle.plain_types.specs.declared.elem.Elem.{Elem}
-use Rattle.plain_types.specs.declared.elem.Elem.TheVariants as elem
 use Rattle.ecma_types.specs.declared.stack.PlaceType.{PlaceType as WorldPlace}
 use Rattle.ecma_types.specs.declared.stack.StackType.{StackType as WorldType}
 use Rattle.cil_opcodes.specs.declared.shape.Access.{Access}
 use Rattle.cil_opcodes.specs.declared.shape.Shape.{Shape}
-use Rattle.machine.specs.Data.{CliType, PlaceType, Cell, Bits, Refers, ArrayOf}
+use Rattle.machine.specs.Data.{CliType, PlaceType}
 use Rattle.machine.specs.Program.{Program, Exact, Typed}
 use Rattle.machine.specs.Program.{Access as MemoryAccess}
 use Rattle.machine.specs.Numbers.{is_long}
 use Rattle.machine.specs.Throw.{on_some}
-use Rattle.machine_typed.specs.Typing.{StackType, I, O, P, H, Never, ArrayKind, NullArray, ArrayWith, number, loaded, is_plain, is_number, is_int, is_reference, is_condition, is_comparable, compares_references, branches_on_references, sort_of, binary_type, shift_type, unary_type, pointee, array_of, pointer_takes, accessed, array_takes, element_loaded, element_takes, assignable, all_assignable, when}
+use Rattle.machine_typed.specs.Typing.{StackType, I, O, P, number, loaded, is_plain, is_number, is_int, is_reference, is_condition, is_comparable, compares_references, branches_on_references, sort_of, binary_type, shift_type, unary_type, pointee, array_of, pointer_takes, accessed, array_takes, element_loaded, element_takes, assignable, all_assignable, when}
 use Rattle.classes.specs.Queries.{listed}
 use Rattle.class_rules.specs.Rules.{holds_some}
 use Rattle.code_rules.specs.Rows.{Row, Rest, Keeps, Drops, WantsNone, none, one, two, three, judged}
-use Rattle.verify_ops.specs.declared.types.ArrayFound.{ArrayFound}
-use Rattle.verify_ops.specs.declared.types.ArrayFound.TheVariants as found
-use Rattle.verify_ops.specs.declared.row.Held.{Held}
-use Rattle.verify_ops.specs.declared.row.Held.TheVariants as held
-use Rattle.verify_ops.specs.declared.row.Rest.{Rest as CodeRest}
-use Rattle.verify_ops.specs.declared.row.Rest.TheVariants as rest
-use Rattle.verify_ops.specs.declared.row.Wants.{Wants}
-use Rattle.verify_ops.specs.declared.row.Wants.TheVariants as wants
-use Rattle.verify_ops.specs.declared.row.Given.{Given}
-use Rattle.verify_ops.specs.declared.row.Given.TheVariants as given
-use Rattle.verify_ops.specs.declared.row.Memory.{Memory}
-use Rattle.verify_ops.specs.declared.row.Memory.TheVariants as memory
-use Rattle.verify_ops.specs.declared.row.Element.{Element}
-use Rattle.verify_ops.specs.declared.row.Element.TheVariants as element
-use Rattle.verify_ops.specs.declared.row.Single.{Single}
-use Rattle.verify_ops.specs.declared.row.Single.TheVariants as single
-use Rattle.verify_ops.specs.declared.row.Pair.{Pair}
-use Rattle.verify_ops.specs.declared.row.Pair.TheVariants as pair
-use Rattle.verify_ops.specs.declared.row.Act.{Act}
-use Rattle.verify_ops.specs.declared.row.Act.TheVariants as act
-use Rattle.verify_ops.specs.declared.row.Row.{Row as CodeRow}
-use Rattle.verify_ops.specs.declared.row.ArrayOperand.{ArrayOperand}
+use Rattle.stack_acts.specs.declared.row.Rest.{Rest as CodeRest}
+use Rattle.stack_acts.specs.declared.row.Rest.TheVariants as rest
+use Rattle.stack_acts.specs.declared.row.Wants.{Wants}
+use Rattle.stack_acts.specs.declared.row.Wants.TheVariants as wants
+use Rattle.stack_acts.specs.declared.row.Given.{Given}
+use Rattle.stack_acts.specs.declared.row.Given.TheVariants as given
+use Rattle.stack_acts.specs.declared.row.Memory.{Memory}
+use Rattle.stack_acts.specs.declared.row.Memory.TheVariants as memory
+use Rattle.stack_acts.specs.declared.row.Element.{Element}
+use Rattle.stack_acts.specs.declared.row.Element.TheVariants as element
+use Rattle.stack_acts.specs.declared.row.Single.{Single}
+use Rattle.stack_acts.specs.declared.row.Single.TheVariants as single
+use Rattle.stack_acts.specs.declared.row.Pair.{Pair}
+use Rattle.stack_acts.specs.declared.row.Pair.TheVariants as pair
+use Rattle.stack_acts.specs.declared.row.Act.{Act}
+use Rattle.stack_acts.specs.declared.row.Act.TheVariants as act
+use Rattle.stack_acts.specs.declared.row.Row.{Row as CodeRow}
+use Rattle.place_types.specs.declared.held.ArrayOperand.{ArrayOperand}
 use Rattle.verify_ops.specs.declared.facts.Facts.{Facts}
 use Rattle.verify_ops.specs.declared.facts.OpRefusal.{OpRefusal}
 use Rattle.verify_ops.specs.declared.facts.OpRefusal.TheVariants as refusal
 use Rattle.verify_ops.specs.declared.facts.Operand.{Operand}
 use Rattle.verify_ops.specs.declared.facts.Operand.TheVariants as operand
 use Rattle.verify_ops.specs.declared.facts.FieldOperand.{FieldOperand}
-use Rattle.verify_ops.specs.Types.{type_of, place_of, stack_of, stack_or_never, from_top}
-use Rattle.verify_ops.specs.Facts.{instruction_by, program_by, field_named, names_plain, names_number, names_element, has_arrays, typed_access, access_named}
+use Rattle.place_types.specs.Types.{type_of, place_of, stack_of, stack_or_never, from_top}
+use Rattle.verify_ops.specs.Facts.{instruction_by, program_by, field_named, names_plain, names_number, names_element, typed_access, access_named}
+use Rattle.place_types.specs.Held.{cell_by, has_arrays, IsArrayOf}
 use Rattle.verify_ops.specs.Effects.{lowest_of, loads, effect_by}
-
-abbrev pub cell_by : Held → Cell
-cell_by (held.Number integer) = Bits integer
-cell_by held.Reference = Refers
-
--- what a place that holds neither a number nor a reference gives
-abbrev pub unheld_type : Elem → StackType
-unheld_type elem.Value = H
-unheld_type _ = Never
-
-abbrev pub array_by : ArrayFound → ArrayKind
-array_by found.Null = NullArray
-array_by (found.Of a) = ArrayWith (type_of a.element)
-
-abbrev pub rest_by : CodeRest → Rest
-rest_by rest.Keeps = Keeps
-rest_by rest.Drops = Drops
-rest_by rest.WantsNone = WantsNone
-
-abbrev pub meets : Program → Wants → StackType → Bool
-meets p wants.Anything t = true
-meets p (wants.Fits place) t = assignable p t (stack_or_never place)
-meets p wants.Reference t = is_reference t
-meets p wants.Int t = is_int t
-meets p wants.Condition t = is_condition (sort_of t)
-
-abbrev pub types_given : Given → List StackType
-types_given given.Nothing = []
-types_given (given.Single t) = stack_or_never t ∷ []
-types_given (given.Twice t) = stack_of t ∷ (stack_of t ∷ [])
-
-abbrev pub access_by : Memory → MemoryAccess
-access_by (memory.Exact h) = Exact (cell_by h)
-access_by (memory.Typed t) = Typed (type_of t)
-
-abbrev pub element_by : Element → MemoryAccess
-element_by (element.Exact h) = Exact (cell_by h)
-element_by (element.Typed t) = Typed (type_of t.element)
-
-abbrev pub single_by : Single → StackType → Option (List StackType)
-single_by single.Duplicate = λ t. Some (t ∷ (t ∷ []))
-single_by single.Unary = λ x. on_some (unary_type (sort_of x)) (λ t. Some (t ∷ []))
-single_by (single.Convert integer) = λ x. on_some (unary_type (sort_of x)) (λ t. Some (number (is_long integer) ∷ []))
-single_by (single.LoadIndirect a) = λ t. on_some (pointee t) (λ type. when (pointer_takes (access_by a) type) (Some (accessed (access_by a) type ∷ [])))
-single_by single.LoadLength = λ t. on_some (array_of t) (λ array. Some (I ∷ []))
-
-abbrev pub pair_by : Program → Pair → StackType → StackType → Option (List StackType)
-pair_by p pair.Binary = λ x y. on_some (binary_type (sort_of x) (sort_of y)) (λ t. Some (t ∷ []))
-pair_by p pair.Shift = λ x y. on_some (shift_type (sort_of x) (sort_of y)) (λ t. Some (t ∷ []))
-pair_by p (pair.Compare comparison) = λ x y. when (is_comparable (compares_references comparison) (sort_of x) (sort_of y)) (Some (I ∷ []))
-pair_by p (pair.BranchCompare comparison) = λ x y. when (is_comparable (branches_on_references comparison) (sort_of x) (sort_of y)) (Some [])
-pair_by p (pair.StoreIndirect a) = λ t v. on_some (pointee t) (λ type. when (pointer_takes (access_by a) type && assignable p v (accessed (access_by a) type)) (Some []))
-pair_by p (pair.LoadElement a) = λ t index. on_some (array_of t) (λ array. when (is_int index && array_takes p (element_by a) array) (Some (element_loaded (element_by a) array ∷ [])))
-pair_by p (pair.LoadElementAddress o) = λ t index. on_some (array_of t) (λ array. when (is_int index && array_takes p (Typed (type_of o.element)) array) (Some (P (type_of o.element) ∷ [])))
-
-abbrev pub store_by : Program → Element → StackType → StackType → StackType → Option (List StackType)
-store_by p a = λ t index v. on_some (array_of t) (λ array. when (is_int index && (array_takes p (element_by a) array && element_takes p (element_by a) v)) (Some []))
-
-abbrev pub gives_by : Program → Act → List StackType → Option (List StackType)
-gives_by p (act.Zero g) = none (option_map types_given g)
-gives_by p (act.One w g) = one (λ t. when (meets p w t) (Some (types_given g)))
-gives_by p (act.Two v w) = two (λ x y. when (meets p v x && meets p w y) (Some []))
-gives_by p (act.Single s) = one (single_by s)
-gives_by p (act.Pair s) = two (pair_by p s)
-gives_by p (act.StoreElement a) = three (store_by p a)
-gives_by p (act.Call this params g) = λ us. when (all_assignable p us (map loaded (map place_of (listed this ++ params.now)))) (Some (types_given g))
-gives_by p (act.New class this params) = λ us. when (all_assignable p (O (type_of class) ∷ us) (map loaded (map place_of (this ∷ params.now)))) (Some (O (type_of class) ∷ []))
-
--- the types that are taken, where they are so many
-abbrev pub one_of : List WorldType → Option WorldType
-one_of (x ∷ []) = Some x
-one_of _ = None
-
-abbrev pub two_of : List WorldType → Option (WorldType × WorldType)
-two_of (x ∷ (y ∷ [])) = Some (x, y)
-two_of _ = None
-
-abbrev pub three_of : List WorldType → Option (WorldType × WorldType × WorldType)
-three_of (x ∷ (y ∷ (z ∷ []))) = Some (x, y, z)
-three_of _ = None
+use Rattle.stack_acts.specs.Acts.{rest_by, types_given, access_by, element_by, gives_by, ElementSpelt, IsSpelt}
 
 abbrev pub row_by : Program → CodeRow → Row
 row_by p r = record { sound = true; rule = 46; pops = r.pops; pushes = r.pushes; gives = gives_by p r.act; rest = rest_by r.rest }
@@ -163,28 +79,6 @@ abbrev pub Judged : Program → CodeRow → ℕ → List WorldType → Result Gi
 Judged p r most stack (Ok g) = judged_by p r most stack ≡ Ok (types_given g ++ from_top (take (kept_below r (length stack)) stack))
 Judged p r most stack (Err (refusal.Broken rule)) = judged_by p r most stack ≡ Err rule
 Judged p r most stack (Err refusal.NoMemory) = Unit {0}
-
--- the array type beside an element's type is that of its arrays
-abbrev pub IsArrayOf : WorldPlace → WorldPlace → Type 0
-IsArrayOf element array = type_of array ≡ ArrayOf (type_of element)
-
-abbrev pub ElementSpelt : Element → Type 0
-ElementSpelt (element.Exact h) = Unit {0}
-ElementSpelt (element.Typed o) = IsArrayOf o.element o.array
-
-abbrev pub FoundSpelt : ArrayFound → Type 0
-FoundSpelt found.Null = Unit {0}
-FoundSpelt (found.Of a) = IsArrayOf a.element a.array
-
-abbrev pub PairSpelt : Pair → Type 0
-PairSpelt (pair.LoadElement a) = ElementSpelt a
-PairSpelt (pair.LoadElementAddress o) = IsArrayOf o.element o.array
-PairSpelt _ = Unit {0}
-
-abbrev pub IsSpelt : Act → Type 0
-IsSpelt (act.Pair s) = PairSpelt s
-IsSpelt (act.StoreElement a) = ElementSpelt a
-IsSpelt _ = Unit {0}
 
 -- what a row of the code makes of a stack
 abbrev pub row_effect : (CliType → CliType → Bool) → Facts → CodeRow → List StackType → Result (List StackType) ℕ

@@ -13,7 +13,7 @@ use Rattle.code_rules.specs.Verdict.{numbered, act_of}
 use Rattle.verify_ops.specs.declared.facts.Facts.{Facts}
 use Rattle.verify_ops.specs.declared.facts.OpRefusal.{OpRefusal}
 use Rattle.verify_ops.specs.declared.facts.OpRefusal.TheVariants as refusal
-use Rattle.verify_ops.specs.Types.{type_of, from_top}
+use Rattle.place_types.specs.Types.{type_of, from_top}
 use Rattle.verify_ops.specs.Facts.{operand_fits, instruction_by, method_by, program_by}
 
 abbrev pub lowest : List ℕ → ℕ

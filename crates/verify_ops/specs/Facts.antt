@@ -1,6 +1,6 @@
 -- What is known of an instruction, as the machine has it: a method, a program that answers what the operand says, and the
 -- machine's instruction; and which operands each instruction takes.
-use Rattle.std.specs.Prelude.{ℕ, ℤ, unsigned_abs, Bool, true, false, ◌&&◌, not, nat_lt, nat_eq, if◌then◌else◌, List, [], ◌∷◌, ◌++◌, map, Option, Some, None, is_some}
+use Rattle.std.specs.Prelude.{ℕ, ℤ, unsigned_abs, Bool, true, false, ◌&&◌, not, nat_eq, if◌then◌else◌, List, [], ◌∷◌, ◌++◌, map, Option, Some, None, is_some}
 use Rattle.std.specs.Option.{option_map}
 use Rattle.plain_types.specs.declared.elem.Elem.{Elem}
 use Rattle.plain_types.specs.declared.elem.Elem.TheVariants as elem
@@ -10,10 +10,10 @@ use Rattle.cil_opcodes.specs.declared.shape.Access.TheVariants as access
 use Rattle.cil_opcodes.specs.declared.shape.Shape.{Shape}
 use Rattle.cil_opcodes.specs.declared.shape.Shape.TheVariants as shape
 use Rattle.file_tables.specs.Bytes.{has_bit}
-use Rattle.machine.specs.Data.{Id, CliType, PlaceType, Bits, Refers, cell_of, Int, Long, Null, Handle}
+use Rattle.machine.specs.Data.{Id, CliType, PlaceType, Bits, Refers, Int, Long, Null, Handle}
 use Rattle.machine.specs.Program.{Program, Method, Body, Code, Missing, Exact, Typed, Instruction, Nop, Push, Dup, Pop, LoadArgument, StoreArgument, LoadArgumentAddress, LoadLocal, StoreLocal, LoadLocalAddress, Binary, Shift, Unary, Compare, Convert, ConvertChecked, Branch, BranchIf, BranchCompare, Switch, Call, CallVirtual, NewObject, Return, LoadField, StoreField, LoadFieldAddress, LoadStatic, StoreStatic, LoadStaticAddress, LoadText, LoadIndirect, StoreIndirect, NewArray, LoadLength, LoadElement, StoreElement, LoadElementAddress, CastClass, IsInstance, Box, Unbox, UnboxAny, Throw, Rethrow, Leave, EndFinally}
 use Rattle.machine.specs.Program.{Access as MemoryAccess}
-use Rattle.machine_typed.specs.Typing.{is_plain, is_number, is_refers}
+use Rattle.machine_typed.specs.Typing.{is_plain, is_number}
 use Rattle.classes.specs.Classes.{FieldKind, InstanceField, StaticField, LiteralField, DataField}
 use Rattle.classes.specs.Queries.{is_instance_kind, is_static_kind, data_of, listed}
 use Rattle.class_rules.specs.Rules.{holds_some}
@@ -22,7 +22,8 @@ use Rattle.verify_ops.specs.declared.facts.Operand.{Operand}
 use Rattle.verify_ops.specs.declared.facts.Operand.TheVariants as operand
 use Rattle.verify_ops.specs.declared.facts.FieldOperand.{FieldOperand}
 use Rattle.verify_ops.specs.declared.facts.MethodOperand.{MethodOperand}
-use Rattle.verify_ops.specs.Types.{id_of, type_of, place_of}
+use Rattle.place_types.specs.Types.{id_of, type_of, place_of}
+use Rattle.place_types.specs.Held.{has_arrays, is_reference_type}
 
 -- ---- what the operand names
 
@@ -43,13 +44,6 @@ names_text operand.Text = true
 names_text _ = false
 
 -- ---- operands that an instruction takes (46), by the flags of rows (II.23.1.5, II.23.1.10, II.23.1.15)
-
--- an array of the type can be spelt
-abbrev pub has_arrays : WorldPlace → Bool
-has_arrays t = nat_lt t.ranks 65535
-
-abbrev pub is_reference_type : WorldPlace → Bool
-is_reference_type t = is_refers (cell_of (type_of t))
 
 abbrev pub is_string : Elem → Bool
 is_string elem.String = true

@@ -1,4 +1,3 @@
-pub mod Types
 pub mod Facts
 pub mod Effects
 pub mod Acts

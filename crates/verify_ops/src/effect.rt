@@ -5,19 +5,20 @@ ghost use Rattle.std.specs.List.{list_any};
 ghost use Rattle.cil_opcodes.specs.Rows.{row_of};
 ghost use Rattle.machine.specs.Data.{CliType};
 ghost use Rattle.machine.specs.Program.{Program};
-ghost use Rattle.verify_ops.specs.Types.{Agrees, from_top};
+ghost use Rattle.place_types.specs.Types.{Agrees, from_top};
 ghost use Rattle.verify_ops.specs.Effects.{Gives, Leaves, effect_of, shape_of, is_never as is_never_type};
-ghost use Rattle.verify_ops.specs.Acts.{Chosen, IsSpelt, Judged, deeper, is_left as is_left_there, passes_max, kept_below, types_given};
+ghost use Rattle.verify_ops.specs.Acts.{Chosen, Judged, deeper, is_left as is_left_there, passes_max, kept_below};
+ghost use Rattle.stack_acts.specs.Acts.{IsSpelt, types_given};
 
 use crate::facts::{Facts, OpRefusal};
-use crate::given::gives;
-use crate::row::{Given, Rest, Row};
 use crate::table::row_for;
 use cil_code::instructions::Instr;
 use cil_opcodes::table::row;
 use ecma_types::lattice::Lattice;
 use ecma_types::stack::StackType;
 use plain_types::fault::NoMemory;
+use stack_acts::given::gives;
+use stack_acts::row::{Given, Rest, Row};
 use std::alloc::Global;
 
 /// Too few types are on the stack.

@@ -3,12 +3,7 @@
 
 pub mod effect;
 pub mod facts;
-pub mod given;
-pub mod judge;
 pub mod law;
 pub mod members;
-pub mod row;
-pub mod spelling;
 pub mod table;
 pub mod typed;
-pub mod types;

@@ -5,17 +5,18 @@ ghost use Rattle.cil_opcodes.specs.declared.shape.Shape.TheVariants as shape;
 ghost use Rattle.machine.specs.Data.{ClassOf};
 ghost use Rattle.machine.specs.Program.{Program};
 ghost use Rattle.code_rules.specs.Rows.{call_row, result_row};
-ghost use Rattle.verify_ops.specs.Types.{type_of, id_of};
+ghost use Rattle.place_types.specs.Types.{type_of, id_of};
 ghost use Rattle.verify_ops.specs.Facts.{is_callable as may_be_called, is_instance_field as is_of_instance, is_static_field as is_of_class, is_data_field as has_data, is_new as makes_new, is_made as makes_objects, this_place as place_of_this, callee, result_of};
-ghost use Rattle.verify_ops.specs.Acts.{Chosen, NamesField, IsSpelt, row_by, types_given};
+ghost use Rattle.verify_ops.specs.Acts.{Chosen, NamesField, row_by};
+ghost use Rattle.stack_acts.specs.Acts.{IsSpelt, types_given};
 
 use crate::facts::{Facts, FieldOperand, MethodOperand, Operand};
-use crate::row::{Act, Given, Rest, Row, Wants};
 use crate::table::{WRONG_OPERAND, is_void};
-use crate::types::{is_plain, is_reference, loaded, pointee, value_type};
 use ecma_types::stack::{PlaceType, StackType};
 use file_tables::bytes::has_bit;
+use place_types::types::{is_plain, is_reference, loaded, pointee, value_type};
 use plain_types::elem::Elem;
+use stack_acts::row::{Act, Given, Rest, Row, Wants};
 
 // The types below are kept.
 macro_rules! keeps {

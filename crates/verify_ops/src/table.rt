@@ -5,24 +5,25 @@ ghost use Rattle.cil_opcodes.specs.declared.shape.Shape.TheVariants as shape;
 ghost use Rattle.code_rules.specs.Rows.{pushing as pushing_row, storing, address_row, return_row};
 ghost use Rattle.machine.specs.Program.{Program};
 ghost use Rattle.machine_typed.specs.Typing.{loaded as loaded_as};
-ghost use Rattle.verify_ops.specs.Types.{place_of};
+ghost use Rattle.place_types.specs.Types.{place_of};
 ghost use Rattle.verify_ops.specs.Facts.{number_or, result_of, is_void as is_void_type};
-ghost use Rattle.verify_ops.specs.Acts.{row_by, Chosen, FindsPlace, IsSpelt};
+ghost use Rattle.verify_ops.specs.Acts.{row_by, Chosen, FindsPlace};
+ghost use Rattle.stack_acts.specs.Acts.{IsSpelt};
 
 use crate::facts::Facts;
 use crate::members::{
     call, call_virtual, load_field, load_field_address, load_static, load_static_address,
     load_token, new_object, store_field, store_static,
 };
-use crate::row::{Act, Given, Pair, Rest, Row, Single, Wants};
 use crate::typed::{
     boxed, cast, load_element, load_element_address, load_indirect, load_text, new_array,
     store_element, store_indirect, unboxed, unboxed_any,
 };
-use crate::types::{is_plain, loaded, pointee};
 use cil_opcodes::shape::Shape;
 use ecma_types::stack::{PlaceType, StackType};
+use place_types::types::{is_plain, loaded, pointee};
 use plain_types::elem::Elem;
+use stack_acts::row::{Act, Given, Pair, Rest, Row, Single, Wants};
 
 /// An operand token that doesn't resolve or is of a kind that the instruction doesn't take.
 pub const WRONG_OPERAND: u8 = 46;

@@ -5,13 +5,14 @@ ghost use Rattle.cil_opcodes.specs.declared.shape.Shape.TheVariants as shape;
 ghost use Rattle.verify_ops.specs.Acts.{Chosen, NamesPlain, NamesNumber, NamesElement, FindsMemory, FindsElement};
 
 use crate::facts::{Facts, Operand};
-use crate::row::{Act, ArrayOperand, Element, Given, Held, Memory, Pair, Rest, Row, Single, Wants};
 use crate::table::WRONG_OPERAND;
-use crate::types::{array_of, is_number, is_plain, pointee, value_type};
 use cil_opcodes::shape::Access;
 use ecma_types::id::TypeId;
 use ecma_types::stack::{PlaceType, StackType};
+use place_types::held::{ArrayOperand, Held};
+use place_types::types::{array_of, is_number, is_plain, pointee, value_type};
 use plain_types::elem::Elem;
+use stack_acts::row::{Act, Element, Given, Memory, Pair, Rest, Row, Single, Wants};
 
 // The types below are kept.
 macro_rules! keeps {

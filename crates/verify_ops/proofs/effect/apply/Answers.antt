@@ -1,7 +1,8 @@
 use Rattle.std.proofs.Common.{◌≡◌, List, ◌++◌, take, length, Ok, Err, sym, ap, ◌∙◌, subst}
 use Rattle.ecma_types.specs.declared.stack.StackType.{StackType as WorldType}
-use Rattle.verify_ops.specs.Types.{from_top}
-use Rattle.verify_ops.specs.Acts.{Judged, kept_below, types_given}
+use Rattle.place_types.specs.Types.{from_top}
+use Rattle.verify_ops.specs.Acts.{Judged, kept_below}
+use Rattle.stack_acts.specs.Acts.{types_given}
 use Rattle.verify_ops.specs.Effects.{shape_of}
 use Rattle.verify_ops.specs.Facts.{program_by}
 use Rattle.verify_ops.proofs.Choices.{effect_left, effect_refused}

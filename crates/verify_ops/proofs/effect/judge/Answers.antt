@@ -1,6 +1,6 @@
 use Rattle.std.proofs.Common.{sym, ap, ◌∙◌}
 use Rattle.std.specs.Option.{option_map}
-use Rattle.verify_ops.specs.Acts.{types_given}
+use Rattle.stack_acts.specs.Acts.{types_given}
 use Rattle.verify_ops.proofs.Judging.{too_few, too_deep_there, wrong_there, left_there, never_there, given_so, sliced}
 use Rattle.verify_ops.proofs.effect.judge.Goals as goal
 

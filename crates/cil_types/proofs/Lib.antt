@@ -1,0 +1,4 @@
+pub mod RowLaws
+pub mod FitLaws
+pub mod SpellLaws
+pub mod MergeLaws

@@ -1,0 +1,3 @@
+pub mod Basic
+pub mod Order
+pub mod Types

@@ -1,0 +1,7 @@
+pub mod DownLaws
+pub mod RowLaws
+pub mod OwnLaws
+pub mod TargetLaws
+pub mod InheritLaws
+pub mod SlotLaws
+pub mod KeptLaws

@@ -1,0 +1,4 @@
+pub mod Owned
+pub mod Virtual
+pub mod Down
+pub mod Bodied

@@ -1,0 +1,5 @@
+pub mod Among
+pub mod Marks
+pub mod Places
+pub mod Clauses
+pub mod Inside

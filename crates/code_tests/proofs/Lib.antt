@@ -1,0 +1,5 @@
+pub mod ShapeLaws
+pub mod LineLaws
+pub mod ClauseLaws
+pub mod TestLaws
+pub mod MeantLaws

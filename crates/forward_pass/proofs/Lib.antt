@@ -1,0 +1,5 @@
+pub mod JoinLaws
+pub mod RuleLaws
+pub mod EdgeLaws
+pub mod VisitLaws
+pub mod PassLaws

@@ -1,0 +1,8 @@
+//! Which rows of a set of assemblies are kept, and their numbers among those kept of their tables.
+#![tactic(auto)]
+
+mod kept;
+pub mod law;
+mod ranks;
+
+pub use kept::Kept;

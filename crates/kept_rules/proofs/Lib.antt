@@ -1,0 +1,4 @@
+pub mod NameLaws
+pub mod RuleLaws
+pub mod There
+pub mod LeastLaws

@@ -1,0 +1,7 @@
+//! How many rows a file has of the tables of which some rows are kept.
+#![tactic(auto)]
+
+mod counts;
+pub mod law;
+
+pub use counts::{count_rows, is_field_reference};

@@ -1,0 +1,5 @@
+pub mod SubjectLaws
+pub mod RowLaws
+pub mod OwnerLaws
+pub mod LibraryLaws
+pub mod TableLaws

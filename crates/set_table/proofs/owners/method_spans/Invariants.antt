@@ -1,0 +1,6 @@
+use Rattle.std.proofs.Common.{◌≡◌, map, take}
+use Rattle.set_table.specs.Subject.{method_span}
+use Rattle.set_table.proofs.owners.method_spans.Given as goal
+
+abbrev pub invariant-loop-row : goal.invariant-loop-row
+invariant-loop-row l = l.spans.items ≡ map method_span (take l.row-index l.classes)

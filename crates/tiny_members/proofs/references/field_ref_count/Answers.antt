@@ -1,0 +1,5 @@
+use Rattle.tiny_members.proofs.RowLaws.{field_refs_counted}
+use Rattle.tiny_members.proofs.references.field_ref_count.Goals as goal
+
+pub returns : goal.returns
+returns c = field_refs_counted c.args.image.now c.has_rows.ensures c.rows.result c.rows.ensures

@@ -1,5 +1,0 @@
-use Rattle.verify_ops.proofs.Judging.{unequal_types}
-use Rattle.verify_ops.proofs.judge.all_fit.Goals as goal
-
-pub returns-then-from-to : goal.returns-then-from-to
-returns-then-from-to g c = λ p agrees. unequal_types p c.args.from.now c.args.to.now c.if-from-to.true
