@@ -1,7 +1,7 @@
 -- Which types stand behind one of their names.
-use Rattle.std.proofs.Common.{◌≡◌, ◌∙◌, ℕ, suc, ◌+◌, ◌<◌, Bool, false, List, [], map, take, Option, Some, None, refl, sym, ap}
+use Rattle.std.proofs.Common.{◌≡◌, ◌∙◌, ℕ, suc, ◌+◌, ◌<◌, Bool, false, List, [], map, Option, Some, None, refl, sym, ap}
 use Rattle.std.specs.Prelude.{slice_get, unwrap_or, ◌&&◌}
-use Rattle.std.specs.List.{list_any, position}
+use Rattle.std.specs.List.{position}
 use Rattle.std.specs.Option.{option_map, option_cmp}
 use Rattle.std.specs.Ordering.{nat_cmp, eq_by_cmp, is_eq, ordering_then}
 use Rattle.std.specs.declared.cmp.Ordering.{Ordering}
@@ -17,7 +17,7 @@ use Rattle.assemblies.proofs.Numbered.{get_numbered}
 use Rattle.world_rows.specs.Tokens.{type_defs}
 use Rattle.world_rows.specs.Rows.{type_row}
 use Rattle.type_names.specs.declared.keys.NameKey.{NameKey}
-use Rattle.type_names.specs.Names.{TypeName, same_name, type_name, type_name_at, type_order, type_seen}
+use Rattle.type_names.specs.Names.{same_name, type_name, type_name_at, type_order, type_seen}
 use Rattle.type_names.proofs.KeyLaws.{text_equal}
 use Rattle.repeated_keys.specs.Repeats.{AreRepeats}
 use Rattle.type_tests.specs.Columns.{first_of_name, precedes}

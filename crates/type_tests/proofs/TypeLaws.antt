@@ -1,9 +1,9 @@
 -- What the tests of a type's row say, by the table of classes and the names of the file's types.
-use Rattle.std.proofs.Common.{◌≡◌, ◌∙◌, ℕ, suc, ◌+◌, ◌<◌, ◌≤◌, Bool, List, [], ◌∷◌, get_or, map, take, Option, Some, None, refl, sym, ap, arith, add-one}
+use Rattle.std.proofs.Common.{◌≡◌, ◌∙◌, ℕ, suc, ◌+◌, ◌<◌, ◌≤◌, Bool, List, [], ◌∷◌, map, take, Option, Some, None, refl, sym, ap, arith, add-one}
 use Rattle.std.specs.Prelude.{slice_get, slice_index, unwrap_or, is_some}
 use Rattle.std.specs.List.{list_any, position}
 use Rattle.std.specs.Option.{option_map}
-use Rattle.std.proofs.lemmas.Option.{get_or_from_slice_get, slice_get-get_or, slice_get_past}
+use Rattle.std.proofs.lemmas.Option.{slice_get-get_or, slice_get_past}
 use Rattle.plain_types.specs.declared.fault.Fault.{Fault}
 use Rattle.file_tables.specs.declared.schema.Coded.TheVariants.{TypeDefOrRef}
 use Rattle.file_tables.specs.Metadata.{MetadataPart, rows_of, row_of, row_count}
