@@ -13,8 +13,8 @@ use type_tests::{AssemblyNames, Entries, TypeColumns};
 
 /// What the rows of a file are looked up by.
 #[derive(Drop)]
-pub struct FileColumns<'a> {
-    pub types: TypeColumns<'a>,
+pub struct FileColumns {
+    pub types: TypeColumns,
     pub looked: Looked,
 }
 
@@ -26,15 +26,15 @@ pub struct Judge<'s, 'w, 'a> {
     pub methods: MemberIndex<'w, 'a>,
     pub names: AssemblyNames<'a>,
     pub entries: Entries,
-    pub files: Vec<FileColumns<'a>>,
+    pub files: Vec<FileColumns>,
 }
 
 /// What the rows of a file are looked up by.
-fn read_columns<'a>(
+fn read_columns(
     alloc: Global,
-    subject: &Subject<'_, 'a>,
+    subject: &Subject<'_, '_>,
     file: u16,
-) -> Result<FileColumns<'a>, NoMemory>
+) -> Result<FileColumns, NoMemory>
     requires { file < length subject.now.world.now }
     ensures { IfOk result (AreFileColumns subject.now.world.now file) }
 {
@@ -46,10 +46,7 @@ fn read_columns<'a>(
 }
 
 /// The same of each file.
-fn read_files<'a>(
-    alloc: Global,
-    subject: &Subject<'_, 'a>,
-) -> Result<Vec<FileColumns<'a>>, NoMemory>
+fn read_files(alloc: Global, subject: &Subject<'_, '_>) -> Result<Vec<FileColumns>, NoMemory>
     ensures { IfOk result (λ all. AreAllColumns subject.now.world.now all.items) }
 {
     let mut all = Vec::new(alloc);
@@ -79,7 +76,7 @@ pub fn read_judge<'s, 'w, 'a>(
 }
 
 /// What the rows of one of the files are looked up by.
-pub fn columns<'j, 'a>(judge: &'j Judge<'_, '_, 'a>, file: u16) -> &'j FileColumns<'a>
+pub fn columns<'j>(judge: &'j Judge<'_, '_, '_>, file: u16) -> &'j FileColumns
     requires judge { IsJudge judge.now }
     requires file { file < length judge.now.subject.now.world.now }
     ensures { AreFileColumns judge.now.subject.now.world.now file result.now }

@@ -1,5 +1,6 @@
 pub mod ListLaws
 pub mod CountLaws
 pub mod TypeLaws
+pub mod RepeatLaws
 pub mod NameLaws
 pub mod EntryLaws

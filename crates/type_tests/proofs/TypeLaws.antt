@@ -1,9 +1,9 @@
 -- What the tests of a type's row say, by the table of classes and the names of the file's types.
-use Rattle.std.proofs.Common.{◌≡◌, ◌∙◌, ℕ, suc, ◌+◌, ◌<◌, ◌≤◌, Bool, List, [], ◌∷◌, get_or, map, take, Option, Some, None, refl, sym, ap, arith, add-one}
+use Rattle.std.proofs.Common.{◌≡◌, ◌∙◌, ℕ, suc, ◌+◌, ◌<◌, ◌≤◌, Bool, List, [], ◌∷◌, map, take, Option, Some, None, refl, sym, ap, arith, add-one}
 use Rattle.std.specs.Prelude.{slice_get, slice_index, unwrap_or, is_some}
 use Rattle.std.specs.List.{list_any, position}
 use Rattle.std.specs.Option.{option_map}
-use Rattle.std.proofs.lemmas.Option.{get_or_from_slice_get, slice_get-get_or, slice_get_past}
+use Rattle.std.proofs.lemmas.Option.{slice_get-get_or, slice_get_past}
 use Rattle.plain_types.specs.declared.fault.Fault.{Fault}
 use Rattle.file_tables.specs.declared.schema.Coded.TheVariants.{TypeDefOrRef}
 use Rattle.file_tables.specs.Metadata.{MetadataPart, rows_of, row_of, row_count}
@@ -25,24 +25,20 @@ use Rattle.type_names.specs.Resolved.{class_coded}
 use Rattle.class_table.specs.declared.rows.ClassRow.{ClassRow}
 use Rattle.class_table.specs.declared.rows.FileRows.{FileRows}
 use Rattle.class_table.specs.declared.rows.ClassTable.{ClassTable}
-use Rattle.class_table.specs.Outlines.{Outline, outline_seen}
 use Rattle.class_table.specs.Seen.{class_row, classes_seen, row_seen}
 use Rattle.class_table.specs.Whole.{IsTable}
 use Rattle.class_table.proofs.TableLaws.{table_law}
 use Rattle.class_queries.specs.Found.{found_row}
-use Rattle.class_reading.specs.Types.{row_outline}
-use Rattle.class_reading.proofs.FileLaws.{key_at}
-use Rattle.class_reading.proofs.TypeLaws.{outlines_are}
 use Rattle.class_rules.specs.Rules.{holds_some, may_be_implemented}
 use Rattle.verdict_rules.specs.Order.{TableRules, first_fault, test}
 use Rattle.verdict_rules.specs.World.{World, world_of}
 use Rattle.verdict_rules.specs.Types.{has_layout, has_name, is_type_before, of_class, class_tests, type_tests, interface_tests}
 use Rattle.profile_subject.specs.Faults.{row_fault}
-use Rattle.type_tests.specs.Columns.{first_of_name, name_seen, precedes}
+use Rattle.type_tests.specs.Columns.{first_of_name, precedes}
 use Rattle.type_tests.specs.Judged.{world_seen}
 use Rattle.type_tests.proofs.ListLaws.{any_before}
 
-from_none : (n : ℕ) → 0 + n ≡ n
+pub from_none : (n : ℕ) → 0 + n ≡ n
 from_none n = omega arith
 
 -- ---- rows and what they are told
@@ -145,7 +141,7 @@ layout_is {A} g o m n e = go o (row_with 2 (n + 1) (rows_of m class_layouts)) e 
 
 -- ---- an earlier type of the names
 
-names_are : (m : MetadataPart) (kinds : ℕ → TypeKind) (n : ℕ) (rows : List (List ℕ)) → map type_name (numbered (type_row m kinds) n rows) ≡ numbered (type_name_at m) n rows
+pub names_are : (m : MetadataPart) (kinds : ℕ → TypeKind) (n : ℕ) (rows : List (List ℕ)) → map type_name (numbered (type_row m kinds) n rows) ≡ numbered (type_name_at m) n rows
 names_are m kinds n [] = refl
 names_are m kinds n (row ∷ rows) = ap (λ ys. type_name_at m n row ∷ ys) (names_are m kinds (suc n) rows)
 
@@ -185,21 +181,6 @@ module _ (files : List FilePart) (file : ℕ) (m : MetadataPart) (there : option
           let same : x.metadata ≡ m = cc e in
           ap (λ (y : MetadataPart). holds_some (slice_get (numbered (type_row y (λ i. kind_of (size_of (rows_alone files)) (rows_alone files) (id_at file i))) 0 (rows_of y type_defs)) n) (λ t. list_any (has_name t) (take n (numbered (type_row y (λ i. kind_of (size_of (rows_alone files)) (rows_alone files) (id_at file i))) 0 (rows_of y type_defs))))) same
           ∙ before_in m (λ i. kind_of (size_of (rows_alone files)) (rows_alone files) (id_at file i)) n within
-
-  name_of : Outline → TypeName
-  name_of o = record { enclosing = o.enclosing; namespace = o.namespace; name = o.name }
-
-  -- the row of a table has the names of the file's
-  pub name_is : (t : ClassTable) → IsTable files t → (n : ℕ) → n < row_count m type_defs → (r : ClassRow) → found_row t (id_at file n) ≡ Some r → name_seen r ≡ type_name_at m n (row_of m type_defs (suc n))
-  unfolding name_of
-  name_is t table n within r e = go (slice_get t.files.items file) refl e
-    where
-      go : (o : Option FileRows) → slice_get t.files.items file ≡ o → on_some o (λ (f : FileRows). slice_get f.classes.items n) ≡ Some r → name_seen r ≡ type_name_at m n (row_of m type_defs (suc n))
-      go None at h = cc h
-      go (Some f) at h =
-          let here : get_or f.classes.items n r ≡ r = get_or_from_slice_get f.classes.items n r r h in
-          ap name_seen (sym here)
-          ∙ ap name_of (key_at outline_seen (row_outline files file m) f.classes.items (rows_of m type_defs) n r [] ((table.rows file f at).classes ∙ outlines_are files file m there) within)
 
 -- ---- what a row of types is told
 

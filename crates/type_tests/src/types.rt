@@ -1,15 +1,11 @@
 //! The tests of types (ECMA-335 II.22.37, II.22.8, II.23.1.15).
 
-ghost use Rattle.std.specs.Prelude.{◌≡◌, ℕ, suc, ◌+◌, ◌<◌, ◌/◌, ◌%◌, ◌^◌, ◌==◌, ◌&&◌, List, Some, length, slice_get, slice_index};
-ghost use Rattle.std.specs.List.{position};
-ghost use Rattle.std.specs.BTreeMap.{get};
-ghost use Rattle.file_tables.specs.Metadata.{MetadataPart};
+ghost use Rattle.std.specs.Prelude.{◌≡◌, ℕ, suc, ◌+◌, ◌<◌, ◌/◌, ◌%◌, ◌^◌, ◌==◌, ◌&&◌, false, List, Some, length, slice_get, slice_index, unwrap_or};
 ghost use Rattle.file_tables.specs.File.{FilePart};
 ghost use Rattle.classes.specs.Classes.{Class};
 ghost use Rattle.classes.specs.Queries.{fields_of, own_instance_fields};
 ghost use Rattle.world_rows.specs.Tokens.{type_defs};
 ghost use Rattle.world_rows.specs.World.{rows_alone, type_count};
-ghost use Rattle.type_names.specs.Names.{type_order};
 ghost use Rattle.member_keys.specs.Seen.{class_seen};
 ghost use Rattle.class_table.specs.declared.rows.FileRows.{FileRows};
 ghost use Rattle.class_table.specs.Seen.{classes_seen, kind_seen, row_seen};
@@ -19,7 +15,7 @@ ghost use Rattle.verdict_rules.specs.World.{world_of};
 ghost use Rattle.verdict_rules.specs.Types.{data_type_well, has_layout, is_found, type_well, class_tests, type_tests};
 ghost use Rattle.profile_subject.specs.Faults.{row_fault};
 ghost use Rattle.profile_subject.specs.Subject.{IsSubject};
-ghost use Rattle.type_tests.specs.Columns.{IsColumns, AreColumns, first_of_name, name_seen, precedes};
+ghost use Rattle.type_tests.specs.Columns.{IsColumns, AreColumns};
 ghost use Rattle.type_tests.specs.Judged.{IsJudged, class_at, columns_at, world_at, placed_well, laid_well, data_laid_well};
 
 use crate::columns::TypeColumns;
@@ -38,43 +34,28 @@ use member_keys::ClassId;
 use member_reading::first_row;
 use plain_types::fault::{Fault, Place};
 use profile_subject::Subject;
-use type_names::{NameKey, split};
+use type_names::split;
 
 /// A type that is judged: what its file says of it, and what the table of classes does.
 #[derive(Clone, Copy)]
 struct Judged<'s, 'w, 'a> {
     subject: &'s Subject<'w, 'a>,
-    columns: &'s TypeColumns<'a>,
+    columns: &'s TypeColumns,
     tables: &'s Tables<'a>,
     class: ClassId,
     row: &'s ClassRow<'a>,
     def: TypeDefRow,
 }
 
-/// The first type of a name.
-fn first_named<'a>(columns: &TypeColumns<'a>, key: NameKey<'a>) -> Option<u32>
-    ensures { result ≡ get type_order columns.now.names key.entry }
+/// Whether a type of the file before a row of its types has that one's names.
+fn is_named_before(columns: &TypeColumns, n: u32) -> bool
+    ensures { result ≡ unwrap_or (slice_get columns.now.repeats.items n) false }
 {
-    columns.names.get(&key).copied()
-}
-
-/// Whether a type of the file has the names of the one of a row, and stands before it.
-fn is_named_before<'a>(columns: &TypeColumns<'a>, row: &ClassRow<'a>, n: u32) -> bool
-    ensures { (m : MetadataPart) → IsColumns m columns.now → result ≡ precedes n (first_of_name m (name_seen row.now)) }
-{
-    let key = NameKey {
-        enclosing: row.enclosing,
-        namespace: row.namespace,
-        name: row.name,
-    };
-    match first_named(columns, key) {
-        Some(first) => first < n,
-        None => false,
-    }
+    columns.repeats.get(n as usize).copied().unwrap_or(false)
 }
 
 /// Whether the file has a layout of the type (ECMA-335 II.22.8).
-fn has_layout(tables: &Tables<'_>, columns: &TypeColumns<'_>, n: u32) -> bool
+fn has_layout(tables: &Tables<'_>, columns: &TypeColumns, n: u32) -> bool
     requires columns { IsColumns tables.now columns.now }
     requires row { n + 1 < 2 ^ 32 }
     ensures { result ≡ has_layout tables.now n }
@@ -127,7 +108,7 @@ fn placed_well(judged: &Judged<'_, '_, '_>) -> bool
 {
     let subject = judged.subject;
     is_enclosed_well(&subject.setting, judged.class, count_types(subject))
-        && !is_named_before(judged.columns, judged.row, judged.class.row)
+        && !is_named_before(judged.columns, judged.class.row)
 }
 
 /// Whether a type has a layout that it may have, and stands well.
@@ -200,7 +181,7 @@ fn class_fault(judged: &Judged<'_, '_, '_>, file: u16) -> Option<Fault>
 /// go in no circle (II.22.32), and no type before it has its names. `None` where the row keeps them or isn't there.
 pub fn type_fault<'a>(
     subject: &Subject<'_, 'a>,
-    columns: &TypeColumns<'a>,
+    columns: &TypeColumns,
     file: u16,
     n: u32,
 ) -> Option<Fault>

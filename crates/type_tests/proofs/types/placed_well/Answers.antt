@@ -5,9 +5,7 @@ use Rattle.member_keys.specs.Seen.{class_seen}
 use Rattle.class_table.specs.Seen.{classes_seen}
 use Rattle.class_rules.specs.Rules.{is_enclosed_well}
 use Rattle.verdict_rules.specs.Types.{is_type_before}
-use Rattle.type_names.specs.Names.{TypeName}
-use Rattle.type_tests.specs.Columns.{first_of_name, precedes}
-use Rattle.type_tests.proofs.TypeLaws.{before_is, name_is}
+use Rattle.type_tests.proofs.TypeLaws.{before_is}
 use Rattle.type_tests.proofs.types.placed_well.Goals as goal
 
 pub returns-then-is_enclosed_well : goal.returns-then-is_enclosed_well
@@ -17,8 +15,8 @@ returns-then-is_enclosed_well c =
     let m = j.tables.now in
     let n = j.class.row in
     ap not
-    (c.is_named_before.ensures m c.requires.columns
-    ∙ ap (λ (t : TypeName). precedes n (first_of_name m t)) (name_is s.world.now j.class.file m c.requires.tables s.setting.table.now c.requires.subject.table n c.requires.within j.row.now c.requires.row)
+    (c.is_named_before.ensures
+    ∙ c.requires.columns.repeats n c.requires.within
     ∙ sym (before_is s.world.now j.class.file m c.requires.tables n c.requires.within))
     ∙ sym
     (ap (λ b. b && not (is_type_before (assemblies_of s.world.now) (class_seen j.class)))
