@@ -13,8 +13,8 @@ pub trait Lattice {
     /// The first is assignable to the second.
     ghost is_assignable: { Self → StackType → StackType → Bool };
 
-    /// The type that stands for both where two paths join, if there is one.
-    ghost merged: { Self → StackType → StackType → Option StackType };
+    /// What may stand for both of two types where two paths join: a type in one of its spellings, or none.
+    ghost merges: { Self → StackType → StackType → Option StackType → Type 0 };
 
     /// The type on the stack of a value loaded from a place, which void and data types don't have.
     ghost loaded_as: { Self → PlaceType → Option StackType };
@@ -30,7 +30,7 @@ pub trait Lattice {
         a: &StackType,
         b: &StackType,
     ) -> Result<Option<StackType>, NoMemory>
-        ensures { IfOk result (λ both. both ≡ merged self.now a.now b.now) };
+        ensures { IfOk result (λ both. merges self.now a.now b.now both) };
 
     /// The type on the stack of a value loaded from a place of this type, and `None` exactly for void and a data type.
     fn loaded(&self, alloc: Global, of: &PlaceType) -> Result<Option<StackType>, NoMemory>

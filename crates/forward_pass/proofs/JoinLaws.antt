@@ -1,7 +1,6 @@
 -- Two stacks place by place, from the lowest place up.
 use Rattle.std.proofs.Common.{◌≡◌, ℕ, suc, ◌+◌, ◌-◌, ◌<◌, Bool, true, false, List, [], ◌∷◌, ◌++◌, length, get_or, take, drop, map, Option, Some, None, Ok, Err, refl, sym, ap, ◌∙◌, arith}
 use Rattle.std.specs.Prelude.{reverse}
-use Rattle.std.specs.Option.{option_map}
 use Rattle.std.proofs.lemmas.List.{map_more, map-append, reverse-append, length-reverse, length-map, length-drop, take-append-drop}
 use Rattle.ecma_types.specs.declared.stack.StackType.{StackType as WorldType}
 use Rattle.machine_typed.specs.Typing.{StackType}
@@ -85,8 +84,8 @@ module _ (seen : WorldType → StackType) where
     fit_same : (ts us ts' us' : List StackType) → ts ≡ ts' → us ≡ us' → fit_all l ts us ≡ fit_all l ts' us'
     fit_same ts us ts' us' e f = ap (λ x. fit_all l x us) e ∙ ap (fit_all l ts') f
 
-    module _ (assignable : WorldType → WorldType → Bool) (merged : WorldType → WorldType → Option WorldType) (agrees : Agrees seen assignable merged l) where
-      pub merge_fails : (ts us both : List WorldType) (i : ℕ) (d e : WorldType) → length ts ≡ length us → i < length us → merged (get_or ts i d) (get_or us i e) ≡ None → merge_all l (seen_stack seen (take i ts)) (seen_stack seen (take i us)) ≡ Ok (seen_stack seen both) → merge_all l (seen_stack seen ts) (seen_stack seen us) ≡ Err 53
+    module _ (assignable : WorldType → WorldType → Bool) (merges : WorldType → WorldType → Option WorldType → Type 0) (agrees : Agrees seen assignable merges l) where
+      pub merge_fails : (ts us both : List WorldType) (i : ℕ) (d e : WorldType) → length ts ≡ length us → i < length us → merges (get_or ts i d) (get_or us i e) None → merge_all l (seen_stack seen (take i ts)) (seen_stack seen (take i us)) ≡ Ok (seen_stack seen both) → merge_all l (seen_stack seen ts) (seen_stack seen us) ≡ Err 53
       merge_fails ts us both i d e same in_us apart before =
           let t = get_or ts i d in
           let u = get_or us i e in
@@ -95,7 +94,7 @@ module _ (seen : WorldType → StackType) where
           ∙ merge_above l (seen_stack seen (drop (i + 1) ts)) (seen_stack seen (drop (i + 1) us)) (seen_stack seen (take (i + 1) ts)) (seen_stack seen (take (i + 1) us)) (rest_length ts us (i + 1) same)
           (merge_same _ _ _ _ (stack_more ts i d in_ts) (stack_more us i e in_us)
           ∙ ap (cons_merged (l.merge (seen t) (seen u))) before
-          ∙ ap (λ o. cons_merged o (Ok (seen_stack seen both))) (sym (agrees.joins t u) ∙ ap (option_map seen) apart))
+          ∙ ap (λ o. cons_merged o (Ok (seen_stack seen both))) (sym (agrees.joins t u None apart)))
 
       pub fit_fails : (ts us : List WorldType) (i : ℕ) (d e : WorldType) → length ts ≡ length us → i < length us → assignable (get_or ts i d) (get_or us i e) ≡ false → fit_all l (seen_stack seen (take i ts)) (seen_stack seen (take i us)) ≡ None → fit_all l (seen_stack seen ts) (seen_stack seen us) ≡ Some 53
       fit_fails ts us i d e same in_us apart before =

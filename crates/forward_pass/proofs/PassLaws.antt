@@ -50,13 +50,13 @@ pub record Continues (l : Lattice) (steps rest : List Step) (seen : WorldType �
   pub keeps : Keeps seen (is_needed steps at) table entries
   pub same : pass l steps [] (Some []) ≡ pass l rest entries (seen_falling seen falling)
 
-pub record Walks (steps : List Step) (seen : WorldType → StackType) (assignable : WorldType → WorldType → Bool) (merged : WorldType → WorldType → Option WorldType) (table : BTreeMap ℕ (Vec WorldType)) (falling : Option (Vec WorldType)) (at size : ℕ) : Type 0 where
+pub record Walks (steps : List Step) (seen : WorldType → StackType) (assignable : WorldType → WorldType → Bool) (merges : WorldType → WorldType → Option WorldType → Type 0) (table : BTreeMap ℕ (Vec WorldType)) (falling : Option (Vec WorldType)) (at size : ℕ) : Type 0 where
   pub older : List Step
   pub rest : List Step
   pub whole : steps ≡ older ++ rest
   pub before : AreBefore at older
   pub lies : LieFrom rest at size
-  pub goes : (l : Lattice) → Agrees seen assignable merged l → Continues l steps rest seen at table falling
+  pub goes : (l : Lattice) → Agrees seen assignable merges l → Continues l steps rest seen at table falling
 
 -- what is met next
 pub record Next (steps rest : List Step) (at size : ℕ) : Type 0 where
@@ -91,27 +91,27 @@ none_left : (l : Lattice) (rest : List Step) (at size : ℕ) → size ≤ at →
 none_left l [] at size over h entries us = refl
 none_left l (s ∷ ss) at size over h entries us = absurd (omega (arith, h.1, h.0, lies_up ss s.next size h.2))
 
-module _ (steps : List Step) (seen : WorldType → StackType) (assignable : WorldType → WorldType → Bool) (merged : WorldType → WorldType → Option WorldType) where
+module _ (steps : List Step) (seen : WorldType → StackType) (assignable : WorldType → WorldType → Bool) (merges : WorldType → WorldType → Option WorldType → Type 0) where
   -- what is said of the visit of the instruction at an offset
   abbrev pub Visits : BTreeMap ℕ (Vec WorldType) → Option (Vec WorldType) → ℕ → StepFacts → BTreeMap ℕ (Vec WorldType) → Result (Option (Vec WorldType)) ℕ → Type 0
   Visits table falling at facts table' after =
-      (s : Step) (l : Lattice) (entries : List Entry) → step_at steps at ≡ Some s → IsRanked s → at < s.next → Tells seen s (is_target steps at) facts → Agrees seen assignable merged l → Keeps seen (is_needed steps at) table entries → Behind seen (is_needed steps s.next) table' after (visit l s entries (seen_falling seen falling))
+      (s : Step) (l : Lattice) (entries : List Entry) → step_at steps at ≡ Some s → IsRanked s → at < s.next → Tells seen s (is_target steps at) facts → Agrees seen assignable merges l → Keeps seen (is_needed steps at) table entries → Behind seen (is_needed steps s.next) table' after (visit l s entries (seen_falling seen falling))
 
   abbrev pub Knows : ℕ → StepFacts → Type 0
   Knows at facts = (s : Step) → step_at steps at ≡ Some s → Tells seen s (is_target steps at) facts
 
-  module _ (table : BTreeMap ℕ (Vec WorldType)) (falling : Option (Vec WorldType)) (at size : ℕ) (w : Walks steps seen assignable merged table falling at size) where
+  module _ (table : BTreeMap ℕ (Vec WorldType)) (falling : Option (Vec WorldType)) (at size : ℕ) (w : Walks steps seen assignable merges table falling at size) where
     next_step : at < size → Next steps w.rest at size
     next_step more = next_of steps w.older w.rest at size w.whole w.before w.lies more
 
     pub goes_up : at < size → (facts : StepFacts) → Knows at facts → at < facts.next
     goes_up more facts knows = let n = next_step more in omega (arith, n.up, (knows n.step n.found).next)
 
-    pub walk_on : AreRanked steps → at < size → (facts : StepFacts) → Knows at facts → (table' : BTreeMap ℕ (Vec WorldType)) (falling' : Option (Vec WorldType)) → Visits table falling at facts table' (Ok falling') → Walks steps seen assignable merged table' falling' facts.next size
+    pub walk_on : AreRanked steps → at < size → (facts : StepFacts) → Knows at facts → (table' : BTreeMap ℕ (Vec WorldType)) (falling' : Option (Vec WorldType)) → Visits table falling at facts table' (Ok falling') → Walks steps seen assignable merges table' falling' facts.next size
     walk_on ranked more facts knows table' falling' visits =
         let n = next_step more in
         let tells = knows n.step n.found in
-        subst (λ k. Walks steps seen assignable merged table' falling' k size) (sym tells.next) (record {
+        subst (λ k. Walks steps seen assignable merges table' falling' k size) (sym tells.next) (record {
           older = w.older ++ n.step ∷ [];
           rest = n.behind;
           whole = w.whole ∙ ap (λ xs. w.older ++ xs) n.is ∙ sym (append_assoc w.older (n.step ∷ []) n.behind);
@@ -131,7 +131,7 @@ module _ (steps : List Step) (seen : WorldType → StackType) (assignable : Worl
               };
         })
 
-    pub breaks : AreRanked steps → at < size → (facts : StepFacts) → Knows at facts → (table' : BTreeMap ℕ (Vec WorldType)) (rule : ℕ) → Visits table falling at facts table' (Err rule) → (l : Lattice) → Agrees seen assignable merged l → Some (record { offset = at; rule = rule }) ≡ told (pass l steps [] (Some []))
+    pub breaks : AreRanked steps → at < size → (facts : StepFacts) → Knows at facts → (table' : BTreeMap ℕ (Vec WorldType)) (rule : ℕ) → Visits table falling at facts table' (Err rule) → (l : Lattice) → Agrees seen assignable merges l → Some (record { offset = at; rule = rule }) ≡ told (pass l steps [] (Some []))
     breaks ranked more facts knows table' rule visits l agrees =
         let n = next_step more in
         let was = w.goes l agrees in
@@ -142,12 +142,12 @@ module _ (steps : List Step) (seen : WorldType → StackType) (assignable : Worl
         ∙ lowest_is a.broken rule after n.step.at (pass l n.behind a.table a.falling)
         ∙ ap (λ (k : ℕ). Some (record { offset = k; rule = rule })) n.here)
 
-    pub ends : size ≤ at → (l : Lattice) → Agrees seen assignable merged l → None ≡ told (pass l steps [] (Some []))
+    pub ends : size ≤ at → (l : Lattice) → Agrees seen assignable merges l → None ≡ told (pass l steps [] (Some []))
     ends over l agrees =
         let was = w.goes l agrees in
         sym (ap told was.same ∙ none_left l w.rest at size over w.lies was.entries (seen_falling seen falling))
 
-  pub begins : (size : ℕ) (table : BTreeMap ℕ (Vec WorldType)) (stack : Vec WorldType) → LieFrom steps 0 size → table.entries ≡ [] → stack.items ≡ [] → Walks steps seen assignable merged table (Some stack) 0 size
+  pub begins : (size : ℕ) (table : BTreeMap ℕ (Vec WorldType)) (stack : Vec WorldType) → LieFrom steps 0 size → table.entries ≡ [] → stack.items ≡ [] → Walks steps seen assignable merges table (Some stack) 0 size
   begins size table stack lies empty fresh = record {
     older = [];
     rest = steps;

@@ -14,7 +14,7 @@ use Rattle.code_rules.specs.Pass.{Lattice, Step, Entry, After, put, standing, ed
 use Rattle.verdict_rules.specs.Code.{lowest}
 use Rattle.forward_pass.specs.declared.steps.StepFacts.{StepFacts}
 use Rattle.forward_pass.specs.Seen.{AllNeeded, Keeps, is_needed, is_target, step_at, seen_stack, seen_falling, seen_there, seen_types}
-use Rattle.forward_pass.specs.Told.{lowest_of, lower_of, Leaves, Goes, Behind, IsRanked, Tells, begun, left_behind}
+use Rattle.forward_pass.specs.Told.{Acted, lowest_of, lower_of, Leaves, Goes, Behind, IsRanked, Tells, begun, left_behind}
 use Rattle.forward_pass.proofs.RuleLaws.{first_counts, lowest_append, lowest_of_append, lowest_of_three, none_lowest}
 use Rattle.forward_pass.proofs.EdgeLaws.{edges_high, one_rule, there_seen, FailsSo, merge_rules}
 
@@ -76,7 +76,7 @@ arrive_rules l None None None = tt
 
 module _ (l : Lattice) (seen : WorldType → StackType) (needed : ℕ → Bool) (s : Step) (entries : List Entry) (table : BTreeMap ℕ (Vec WorldType)) where
   pub acted_goes : (old new : List WorldType) (rule : Option ℕ) → s.act (seen_stack seen old) ≡ Ok (seen_stack seen new) → Leaves seen needed table rule (edges l s.at (seen_stack seen new) s.goes entries) → Goes seen needed s table new rule (acted l s entries (s.act (seen_stack seen old)))
-  acted_goes old new rule e leaves = subst (λ r. Goes seen needed s table new rule (acted l s entries r)) (sym e) (leaves.0, λ none. (leaves.1, refl))
+  acted_goes old new rule e leaves = subst (λ r. Goes seen needed s table new rule (acted l s entries r)) (sym e) (leaves.0, λ none. (leaves.1, refl, (seen_stack seen old, seen_stack seen new, e)))
 
   pub met_goes : (ts : List StackType) (new : List WorldType) (filled rule : Option ℕ) → filled ≡ lowest_of (not_empty s.tries ts) → Goes seen needed s table new rule (acted l s (put s.at ts entries) (s.act ts)) → Goes seen needed s table new (lower_of filled rule) (met l s entries (Ok ts))
   met_goes ts new filled rule e goes = (
@@ -84,12 +84,18 @@ module _ (l : Lattice) (seen : WorldType → StackType) (needed : ℕ → Bool) 
     λ none. goes.1 (lower_none filled rule none).1,
   )
 
-  behind_goes : (o : Option ℕ) (falls : Bool) (stack : Vec WorldType) (after : After) → falls ≡ s.falls → Goes seen needed s table stack.items o after → Behind seen needed table (left_behind o falls stack) after
-  behind_goes (Some rule) falls stack after e goes = sym goes.0
-  behind_goes None true stack after e goes =
-      (none_lowest after.broken (sym goes.0), (goes.1 refl).0, ap (λ b. cond b (Some (seen_stack seen stack.items)) None) e ∙ (goes.1 refl).1)
-  behind_goes None false stack after e goes =
-      (none_lowest after.broken (sym goes.0), (goes.1 refl).0, ap (λ b. cond b (Some (seen_stack seen stack.items)) None) e ∙ (goes.1 refl).1)
+  abbrev GoesOn : Bool → Type 0
+  GoesOn falls = (types left : List StackType) → s.act types ≡ Ok left → falls ≡ s.falls
+
+  falls_so : (falls : Bool) → GoesOn falls → Acted s → falls ≡ s.falls
+  falls_so falls f a = f a.0 a.1 a.2
+
+  behind_goes : (o : Option ℕ) (falls : Bool) (stack : Vec WorldType) (after : After) → GoesOn falls → Goes seen needed s table stack.items o after → Behind seen needed table (left_behind o falls stack) after
+  behind_goes (Some rule) falls stack after f goes = sym goes.0
+  behind_goes None true stack after f goes =
+      (none_lowest after.broken (sym goes.0), (goes.1 refl).0, ap (λ b. cond b (Some (seen_stack seen stack.items)) None) (falls_so true f (goes.1 refl).2) ∙ (goes.1 refl).1)
+  behind_goes None false stack after f goes =
+      (none_lowest after.broken (sym goes.0), (goes.1 refl).0, ap (λ b. cond b (Some (seen_stack seen stack.items)) None) (falls_so false f (goes.1 refl).2) ∙ (goes.1 refl).1)
 
   visit_goes : (falling : Option (List StackType)) (ts : List StackType) (new : List WorldType) (before rule : Option ℕ) → before ≡ lower_of (lowest_of (fallen s falling)) (lowest_of s.broken) → Ok ts ≡ incoming l s.begins (standing entries s.at) falling → Goes seen needed s table new rule (met l s entries (Ok ts)) → Goes seen needed s table new (lower_of before rule) (visit l s entries falling)
   visit_goes falling ts new before rule e came goes =
@@ -98,7 +104,7 @@ module _ (l : Lattice) (seen : WorldType → StackType) (needed : ℕ → Bool) 
         λ none. goes'.1 (lower_none before rule none).1,
       )
 
-  pub visit_behind : (falling : Option (List StackType)) (ts : List StackType) (stack : Vec WorldType) (before rule : Option ℕ) (falls : Bool) → before ≡ lower_of (lowest_of (fallen s falling)) (lowest_of s.broken) → Ok ts ≡ incoming l s.begins (standing entries s.at) falling → falls ≡ s.falls → Goes seen needed s table stack.items rule (met l s entries (Ok ts)) → Behind seen needed table (left_behind (lower_of before rule) falls stack) (visit l s entries falling)
+  pub visit_behind : (falling : Option (List StackType)) (ts : List StackType) (stack : Vec WorldType) (before rule : Option ℕ) (falls : Bool) → before ≡ lower_of (lowest_of (fallen s falling)) (lowest_of s.broken) → Ok ts ≡ incoming l s.begins (standing entries s.at) falling → GoesOn falls → Goes seen needed s table stack.items rule (met l s entries (Ok ts)) → Behind seen needed table (left_behind (lower_of before rule) falls stack) (visit l s entries falling)
   visit_behind falling ts stack before rule falls e came f goes = behind_goes (lower_of before rule) falls stack (visit l s entries falling) f (visit_goes falling ts stack.items before rule e came goes)
 
   pub visit_fails : (falling : Option (List StackType)) (before : Option ℕ) (rule lowest : ℕ) → before ≡ lower_of (lowest_of (fallen s falling)) (lowest_of s.broken) → Err rule ≡ incoming l s.begins (standing entries s.at) falling → lower_of before (Some rule) ≡ Some lowest → Behind seen needed table (Err lowest) (visit l s entries falling)

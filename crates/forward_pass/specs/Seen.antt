@@ -13,9 +13,9 @@ use Rattle.code_rules.specs.Pass.{Lattice, Step, Entry, standing}
 -- ---- types
 
 -- the order of the code's types is that of the pass
-pub record Agrees (seen : WorldType → StackType) (assignable : WorldType → WorldType → Bool) (merged : WorldType → WorldType → Option WorldType) (l : Lattice) : Type 0 where
+pub record Agrees (seen : WorldType → StackType) (assignable : WorldType → WorldType → Bool) (merges : WorldType → WorldType → Option WorldType → Type 0) (l : Lattice) : Type 0 where
   pub fits : (a b : WorldType) → assignable a b ≡ l.assignable (seen a) (seen b)
-  pub joins : (a b : WorldType) → option_map seen (merged a b) ≡ l.merge (seen a) (seen b)
+  pub joins : (a b : WorldType) (both : Option WorldType) → merges a b both → option_map seen both ≡ l.merge (seen a) (seen b)
 
 -- a stack, whose last type is the topmost one, from the topmost one down
 abbrev pub seen_stack : (WorldType → StackType) → List WorldType → List StackType

@@ -34,7 +34,8 @@ pub record Tells (seen : WorldType → StackType) (s : Step) (is_targeted : Bool
   pub tries : facts.tries ≡ s.tries
   pub broken : facts.broken ≡ lowest_of s.broken
   pub branches : facts.branches ≡ length s.goes
-  pub falls : facts.falls ≡ s.falls
+  -- nothing is said of one that acts on no stack
+  pub falls : (types left : List StackType) → s.act types ≡ Ok left → facts.falls ≡ s.falls
   pub falls_well : facts.falls_well ≡ s.falls_well
   pub targeted : is_targeted ≡ true → facts.targeted ≡ true
 
@@ -55,10 +56,14 @@ AreRanked (s ∷ steps) = IsRanked s × AreRanked steps
 abbrev pub Leaves : (WorldType → StackType) → (ℕ → Bool) → BTreeMap ℕ (Vec WorldType) → Option ℕ → List ℕ × List Entry → Type 0
 Leaves seen needed table rule after = (rule ≡ lowest_of after.0) × Keeps seen needed table after.1
 
+-- an instruction acts on some stack
+abbrev pub Acted : Step → Type 0
+Acted s = (types : List StackType) × (left : List StackType) × (s.act types ≡ Ok left)
+
 -- the same of an instruction, and where nothing is broken what falls through behind it
 abbrev pub Goes : (WorldType → StackType) → (ℕ → Bool) → Step → BTreeMap ℕ (Vec WorldType) → List WorldType → Option ℕ → After → Type 0
 Goes seen needed s table stack rule after =
-    (rule ≡ lowest_of after.broken) × (rule ≡ None → Keeps seen needed table after.table × (falls_with s (seen_stack seen stack) ≡ after.falling))
+    (rule ≡ lowest_of after.broken) × (rule ≡ None → Keeps seen needed table after.table × (falls_with s (seen_stack seen stack) ≡ after.falling) × Acted s)
 
 abbrev pub left_behind : Option ℕ → Bool → Vec WorldType → Result (Option (Vec WorldType)) ℕ
 left_behind (Some rule) falls stack = Err rule

@@ -27,7 +27,7 @@ fn record<L: Lattice>(
     stack: &[StackType],
     lattice: &L,
 ) -> Result<Option<u8>, NoMemory>
-    ensures { IfOk result (λ rule. (seen : WorldType → MachineType) (l : MachineLattice) (needed : ℕ → Bool) (entries : List Entry) → Agrees seen (L.is_assignable lattice.now) (L.merged lattice.now) l → Keeps seen needed table.old entries → needed to ≡ true → Leaves seen needed table.new rule (with_record to entries (recorded_there l (standing entries to) (seen_stack seen stack.now)))) }
+    ensures { IfOk result (λ rule. (seen : WorldType → MachineType) (l : MachineLattice) (needed : ℕ → Bool) (entries : List Entry) → Agrees seen (L.is_assignable lattice.now) (L.merges lattice.now) l → Keeps seen needed table.old entries → needed to ≡ true → Leaves seen needed table.new rule (with_record to entries (recorded_there l (standing entries to) (seen_stack seen stack.now)))) }
 {
     match recorded(alloc, table.get(&to), stack, lattice)? {
         Ok(types) => {
@@ -45,7 +45,7 @@ fn compare<L: Lattice>(
     stack: &[StackType],
     lattice: &L,
 ) -> Result<Option<u8>, NoMemory>
-    ensures { IfOk result (λ rule. (seen : WorldType → MachineType) (l : MachineLattice) → Agrees seen (L.is_assignable lattice.now) (L.merged lattice.now) l → rule ≡ fits_standing l (seen_stack seen stack.now) (seen_there seen there.entry)) }
+    ensures { IfOk result (λ rule. (seen : WorldType → MachineType) (l : MachineLattice) → Agrees seen (L.is_assignable lattice.now) (L.merges lattice.now) l → rule ≡ fits_standing l (seen_stack seen stack.now) (seen_there seen there.entry)) }
 {
     match there {
         Some(there) => misfit(alloc, stack, there, lattice),
@@ -62,7 +62,7 @@ fn edge<L: Lattice>(
     stack: &[StackType],
     lattice: &L,
 ) -> Result<Option<u8>, NoMemory>
-    ensures { IfOk result (λ rule. (seen : WorldType → MachineType) (l : MachineLattice) (needed : ℕ → Bool) (entries : List Entry) → Agrees seen (L.is_assignable lattice.now) (L.merged lattice.now) l → Keeps seen needed table.old entries → needed to ≡ true → Leaves seen needed table.new rule (edge_of l from (seen_stack seen stack.now) to entries)) }
+    ensures { IfOk result (λ rule. (seen : WorldType → MachineType) (l : MachineLattice) (needed : ℕ → Bool) (entries : List Entry) → Agrees seen (L.is_assignable lattice.now) (L.merges lattice.now) l → Keeps seen needed table.old entries → needed to ≡ true → Leaves seen needed table.new rule (edge_of l from (seen_stack seen stack.now) to entries)) }
 {
     if from < to {
         record(alloc, table, to, stack, lattice)
@@ -81,7 +81,7 @@ pub fn edges<S: Steps, L: Lattice>(
     steps: &S,
     lattice: &L,
 ) -> Result<Option<u8>, NoMemory>
-    ensures { IfOk result (λ rule. (s : Step) (l : MachineLattice) (needed : ℕ → Bool) (entries : List Entry) → step_at (S.steps steps.now) from ≡ Some s → branches ≡ length s.goes → Agrees (S.seen steps.now) (L.is_assignable lattice.now) (L.merged lattice.now) l → AllNeeded needed s.goes → Keeps (S.seen steps.now) needed table.old entries → Leaves (S.seen steps.now) needed table.new rule (edges_of l from (seen_stack (S.seen steps.now) stack.now) s.goes entries)) }
+    ensures { IfOk result (λ rule. (listed : List Step) → S.are_steps steps.now listed → (s : Step) (l : MachineLattice) (needed : ℕ → Bool) (entries : List Entry) → step_at listed from ≡ Some s → branches ≡ length s.goes → Agrees (S.seen steps.now) (L.is_assignable lattice.now) (L.merges lattice.now) l → AllNeeded needed s.goes → Keeps (S.seen steps.now) needed table.old entries → Leaves (S.seen steps.now) needed table.new rule (edges_of l from (seen_stack (S.seen steps.now) stack.now) s.goes entries)) }
 {
     let mut lowest = None;
     for branch in 0..branches {

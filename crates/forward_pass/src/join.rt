@@ -28,7 +28,7 @@ pub fn merged<L: Lattice>(
     stack: &[StackType],
     lattice: &L,
 ) -> Result<Result<Vec<StackType>, u8>, NoMemory>
-    ensures { IfOk result (λ both. (seen : WorldType → MachineType) (l : MachineLattice) → Agrees seen (L.is_assignable lattice.now) (L.merged lattice.now) l → seen_types seen both ≡ merge_all l (seen_stack seen there.now) (seen_stack seen stack.now)) }
+    ensures { IfOk result (λ both. (seen : WorldType → MachineType) (l : MachineLattice) → Agrees seen (L.is_assignable lattice.now) (L.merges lattice.now) l → seen_types seen both ≡ merge_all l (seen_stack seen there.now) (seen_stack seen stack.now)) }
 {
     if there.len() != stack.len() {
         return Ok(Err(OTHER_DEPTH));
@@ -50,7 +50,7 @@ pub fn misfit<L: Lattice>(
     there: &[StackType],
     lattice: &L,
 ) -> Result<Option<u8>, NoMemory>
-    ensures { IfOk result (λ rule. (seen : WorldType → MachineType) (l : MachineLattice) → Agrees seen (L.is_assignable lattice.now) (L.merged lattice.now) l → rule ≡ fit_all l (seen_stack seen stack.now) (seen_stack seen there.now)) }
+    ensures { IfOk result (λ rule. (seen : WorldType → MachineType) (l : MachineLattice) → Agrees seen (L.is_assignable lattice.now) (L.merges lattice.now) l → rule ≡ fit_all l (seen_stack seen stack.now) (seen_stack seen there.now)) }
 {
     if there.len() != stack.len() {
         return Ok(Some(OTHER_DEPTH));
@@ -70,7 +70,7 @@ pub fn recorded<L: Lattice>(
     stack: &[StackType],
     lattice: &L,
 ) -> Result<Result<Vec<StackType>, u8>, NoMemory>
-    ensures { IfOk result (λ both. (seen : WorldType → MachineType) (l : MachineLattice) → Agrees seen (L.is_assignable lattice.now) (L.merged lattice.now) l → seen_types seen both ≡ recorded_there l (seen_there seen there.entry) (seen_stack seen stack.now)) }
+    ensures { IfOk result (λ both. (seen : WorldType → MachineType) (l : MachineLattice) → Agrees seen (L.is_assignable lattice.now) (L.merges lattice.now) l → seen_types seen both ≡ recorded_there l (seen_there seen there.entry) (seen_stack seen stack.now)) }
 {
     match there {
         Some(there) => merged(alloc, there, stack, lattice),

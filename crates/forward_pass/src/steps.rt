@@ -35,7 +35,7 @@ pub struct StepFacts {
     pub broken: Option<u8>,
     /// How many targets its branches have.
     pub branches: usize,
-    /// Control goes on behind it.
+    /// Control goes on behind it; nothing is said of an instruction that breaks a rule on every stack.
     pub falls: bool,
     /// Control may fall into it: rule 45 lets the instruction before it.
     pub falls_well: bool,
@@ -45,19 +45,19 @@ pub struct StepFacts {
 
 /// The instructions of a method, each named by the offset at which it begins, in bytes from the start of the code.
 pub trait Steps {
-    /// The instructions, by rising offsets.
-    ghost steps: { Self → List Step };
+    /// The instructions, by rising offsets; none are where nothing is said of them.
+    ghost are_steps: { Self → List Step → Type 0 };
 
     /// A type of the stack as the machine has it.
     ghost seen: { Self → WorldType → MachineType };
 
     /// What is known of the instruction at an offset. Nothing is said where none begins.
     fn facts(&self, alloc: Global, at: u32) -> Result<StepFacts, NoMemory>
-        ensures { IfOk result (λ facts. (s : Step) → step_at (steps self.now) at ≡ Some s → Tells (seen self.now) s (is_target (steps self.now) at) facts) };
+        ensures { IfOk result (λ facts. (listed : List Step) → are_steps self.now listed → (s : Step) → step_at listed at ≡ Some s → Tells (seen self.now) s (is_target listed at) facts) };
 
     /// A target of the branches of the instruction at an offset, counted from 0. Nothing is said where there is none.
     fn target(&self, at: u32, branch: usize) -> u32
-        ensures { (s : Step) → step_at (steps self.now) at ≡ Some s → branch < length s.goes → slice_get s.goes branch ≡ Some result };
+        ensures { (listed : List Step) → are_steps self.now listed → (s : Step) → step_at listed at ≡ Some s → branch < length s.goes → slice_get s.goes branch ≡ Some result };
 
     /// Makes the stack, whose last type is the topmost one, what the instruction at an offset leaves there; `Some` is the
     /// lowest rule that it breaks with these types, and nothing is said of the stack then. It is asked only of instructions
@@ -68,5 +68,5 @@ pub trait Steps {
         at: u32,
         stack: &mut Vec<StackType>,
     ) -> Result<Option<u8>, NoMemory>
-        ensures { IfOk result (λ broken. (s : Step) → step_at (steps self.now) at ≡ Some s → s.broken ≡ [] → Acts (seen self.now) s stack.old.items stack.new.items broken) };
+        ensures { IfOk result (λ broken. (listed : List Step) → are_steps self.now listed → (s : Step) → step_at listed at ≡ Some s → s.broken ≡ [] → Acts (seen self.now) s stack.old.items stack.new.items broken) };
 }

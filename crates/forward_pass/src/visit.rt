@@ -24,7 +24,7 @@ fn joined<L: Lattice>(
     falling: Option<Vec<StackType>>,
     lattice: &L,
 ) -> Result<Result<Vec<StackType>, u8>, NoMemory>
-    ensures { IfOk result (λ types. (seen : WorldType → MachineType) (l : MachineLattice) → Agrees seen (L.is_assignable lattice.now) (L.merged lattice.now) l → seen_types seen types ≡ incoming_of l None (seen_there seen there.entry) (seen_falling seen falling)) }
+    ensures { IfOk result (λ types. (seen : WorldType → MachineType) (l : MachineLattice) → Agrees seen (L.is_assignable lattice.now) (L.merges lattice.now) l → seen_types seen types ≡ incoming_of l None (seen_there seen there.entry) (seen_falling seen falling)) }
 {
     match there {
         Some(there) => match falling {
@@ -46,7 +46,7 @@ fn incoming<L: Lattice>(
     falling: Option<Vec<StackType>>,
     lattice: &L,
 ) -> Result<Result<Vec<StackType>, u8>, NoMemory>
-    ensures { IfOk result (λ types. (seen : WorldType → MachineType) (l : MachineLattice) → Agrees seen (L.is_assignable lattice.now) (L.merged lattice.now) l → seen_types seen types ≡ incoming_of l (begun seen begins) (seen_there seen there.entry) (seen_falling seen falling)) }
+    ensures { IfOk result (λ types. (seen : WorldType → MachineType) (l : MachineLattice) → Agrees seen (L.is_assignable lattice.now) (L.merges lattice.now) l → seen_types seen types ≡ incoming_of l (begun seen begins) (seen_there seen there.entry) (seen_falling seen falling)) }
 {
     match begins {
         Begins::Nothing => joined(alloc, there, falling, lattice),
@@ -107,7 +107,7 @@ fn acted<S: Steps, L: Lattice>(
     steps: &S,
     lattice: &L,
 ) -> Result<Option<u8>, NoMemory>
-    ensures { IfOk result (λ rule. (s : Step) (l : MachineLattice) (entries : List Entry) → step_at (S.steps steps.now) at ≡ Some s → s.broken ≡ [] → Tells (S.seen steps.now) s (is_target (S.steps steps.now) at) facts.now → Agrees (S.seen steps.now) (L.is_assignable lattice.now) (L.merged lattice.now) l → Keeps (S.seen steps.now) (is_needed (S.steps steps.now) s.next) table.old entries → Goes (S.seen steps.now) (is_needed (S.steps steps.now) s.next) s table.new stack.new.items rule (acted_of l s entries (s.act (seen_stack (S.seen steps.now) stack.old.items)))) }
+    ensures { IfOk result (λ rule. (listed : List Step) → S.are_steps steps.now listed → (s : Step) (l : MachineLattice) (entries : List Entry) → step_at listed at ≡ Some s → s.broken ≡ [] → Tells (S.seen steps.now) s (is_target listed at) facts.now → Agrees (S.seen steps.now) (L.is_assignable lattice.now) (L.merges lattice.now) l → Keeps (S.seen steps.now) (is_needed listed s.next) table.old entries → Goes (S.seen steps.now) (is_needed listed s.next) s table.new stack.new.items rule (acted_of l s entries (s.act (seen_stack (S.seen steps.now) stack.old.items)))) }
 {
     match steps.act(alloc, at, stack)? {
         Some(rule) => Ok(Some(rule)),
@@ -125,7 +125,7 @@ fn met<S: Steps, L: Lattice>(
     steps: &S,
     lattice: &L,
 ) -> Result<Option<u8>, NoMemory>
-    ensures { IfOk result (λ rule. (s : Step) (l : MachineLattice) (entries : List Entry) → step_at (S.steps steps.now) at ≡ Some s → s.broken ≡ [] → at < s.next → Tells (S.seen steps.now) s (is_target (S.steps steps.now) at) facts.now → Agrees (S.seen steps.now) (L.is_assignable lattice.now) (L.merged lattice.now) l → Keeps (S.seen steps.now) (is_needed (S.steps steps.now) at) table.old entries → Goes (S.seen steps.now) (is_needed (S.steps steps.now) s.next) s table.new stack.new.items rule (met_of l s entries (Ok (seen_stack (S.seen steps.now) stack.old.items)))) }
+    ensures { IfOk result (λ rule. (listed : List Step) → S.are_steps steps.now listed → (s : Step) (l : MachineLattice) (entries : List Entry) → step_at listed at ≡ Some s → s.broken ≡ [] → at < s.next → Tells (S.seen steps.now) s (is_target listed at) facts.now → Agrees (S.seen steps.now) (L.is_assignable lattice.now) (L.merges lattice.now) l → Keeps (S.seen steps.now) (is_needed listed at) table.old entries → Goes (S.seen steps.now) (is_needed listed s.next) s table.new stack.new.items rule (met_of l s entries (Ok (seen_stack (S.seen steps.now) stack.old.items)))) }
 {
     let filled = filled(facts.tries, stack);
     keep(alloc, table, at, facts.targeted, stack)?;
@@ -158,7 +158,7 @@ fn go_through<S: Steps, L: Lattice>(
     steps: &S,
     lattice: &L,
 ) -> Result<Result<Option<Vec<StackType>>, u8>, NoMemory>
-    ensures { IfOk result (λ after. (s : Step) (l : MachineLattice) (entries : List Entry) → step_at (S.steps steps.now) at ≡ Some s → s.broken ≡ [] → at < s.next → Tells (S.seen steps.now) s (is_target (S.steps steps.now) at) facts.now → Agrees (S.seen steps.now) (L.is_assignable lattice.now) (L.merged lattice.now) l → Keeps (S.seen steps.now) (is_needed (S.steps steps.now) at) table.old entries → Behind (S.seen steps.now) (is_needed (S.steps steps.now) s.next) table.new after (visit_of l s entries (seen_falling (S.seen steps.now) falling))) }
+    ensures { IfOk result (λ after. (listed : List Step) → S.are_steps steps.now listed → (s : Step) (l : MachineLattice) (entries : List Entry) → step_at listed at ≡ Some s → s.broken ≡ [] → at < s.next → Tells (S.seen steps.now) s (is_target listed at) facts.now → Agrees (S.seen steps.now) (L.is_assignable lattice.now) (L.merges lattice.now) l → Keeps (S.seen steps.now) (is_needed listed at) table.old entries → Behind (S.seen steps.now) (is_needed listed s.next) table.new after (visit_of l s entries (seen_falling (S.seen steps.now) falling))) }
 {
     let before = fallen(falling.is_some(), facts.falls_well);
     match incoming(alloc, facts.begins, table.get(&at), falling, lattice)? {
@@ -181,7 +181,7 @@ pub fn visit<S: Steps, L: Lattice>(
     steps: &S,
     lattice: &L,
 ) -> Result<Result<Option<Vec<StackType>>, u8>, NoMemory>
-    ensures { IfOk result (λ after. (s : Step) (l : MachineLattice) (entries : List Entry) → step_at (S.steps steps.now) at ≡ Some s → IsRanked s → at < s.next → Tells (S.seen steps.now) s (is_target (S.steps steps.now) at) facts.now → Agrees (S.seen steps.now) (L.is_assignable lattice.now) (L.merged lattice.now) l → Keeps (S.seen steps.now) (is_needed (S.steps steps.now) at) table.old entries → Behind (S.seen steps.now) (is_needed (S.steps steps.now) s.next) table.new after (visit_of l s entries (seen_falling (S.seen steps.now) falling))) }
+    ensures { IfOk result (λ after. (listed : List Step) → S.are_steps steps.now listed → (s : Step) (l : MachineLattice) (entries : List Entry) → step_at listed at ≡ Some s → IsRanked s → at < s.next → Tells (S.seen steps.now) s (is_target listed at) facts.now → Agrees (S.seen steps.now) (L.is_assignable lattice.now) (L.merges lattice.now) l → Keeps (S.seen steps.now) (is_needed listed at) table.old entries → Behind (S.seen steps.now) (is_needed listed s.next) table.new after (visit_of l s entries (seen_falling (S.seen steps.now) falling))) }
 {
     match facts.broken {
         Some(rule) => Ok(Err(lowest_with(fallen(falling.is_some(), facts.falls_well), rule))),

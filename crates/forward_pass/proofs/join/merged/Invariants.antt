@@ -7,5 +7,5 @@ use Rattle.forward_pass.proofs.join.merged.Given as goal
 
 abbrev pub invariant-loop-place : goal.invariant-loop-place
 invariant-loop-place g l = record {
-  merged : (seen : WorldType → StackType) (m : Lattice) → Agrees seen (g.L.Lattice.is_assignable l.lattice) (g.L.Lattice.merged l.lattice) m → merge_all m (seen_stack seen (take l.place l.there)) (seen_stack seen (take l.place l.stack)) ≡ Ok (seen_stack seen l.both.items);
+  merged : (seen : WorldType → StackType) (m : Lattice) → Agrees seen (g.L.Lattice.is_assignable l.lattice) (g.L.Lattice.merges l.lattice) m → merge_all m (seen_stack seen (take l.place l.there)) (seen_stack seen (take l.place l.stack)) ≡ Ok (seen_stack seen l.both.items);
 }

@@ -7,5 +7,5 @@ use Rattle.forward_pass.proofs.join.misfit.Given as goal
 
 abbrev pub invariant-loop-place : goal.invariant-loop-place
 invariant-loop-place g l = record {
-  fits : (seen : WorldType → StackType) (m : Lattice) → Agrees seen (g.L.Lattice.is_assignable l.lattice) (g.L.Lattice.merged l.lattice) m → fit_all m (seen_stack seen (take l.place l.stack)) (seen_stack seen (take l.place l.there)) ≡ None;
+  fits : (seen : WorldType → StackType) (m : Lattice) → Agrees seen (g.L.Lattice.is_assignable l.lattice) (g.L.Lattice.merges l.lattice) m → fit_all m (seen_stack seen (take l.place l.stack)) (seen_stack seen (take l.place l.there)) ≡ None;
 }

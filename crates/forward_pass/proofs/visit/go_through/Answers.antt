@@ -9,9 +9,8 @@ use Rattle.forward_pass.proofs.visit.go_through.Goals as goal
 
 pub returns-in_ok-rule-in-Ok : goal.returns-in_ok-rule-in-Ok
 returns-in_ok-rule-in-Ok g c =
-    λ s l entries at clean up tells agrees keeps.
+    λ steps are s l entries at clean up tells agrees keeps.
     let seen = g.S.Steps.seen c.args.steps.now in
-    let steps = g.S.Steps.steps c.args.steps.now in
     let needed = is_needed steps s.next in
     let facts = c.args.facts.now in
     let falling = seen_falling seen c.args.falling in
@@ -20,16 +19,15 @@ returns-in_ok-rule-in-Ok g c =
     let came : Ok (seen_stack seen c.in-Ok.stack.items) ≡ incoming l s.begins (standing entries s.at) falling =
     subst (λ (r : Result (Vec WorldType) ℕ). seen_types seen r ≡ incoming l s.begins (standing entries s.at) falling) c.in-Ok.is
     (arrives seen steps s c.args.at facts tells c.args.falling l entries c.args.table.now c.get.result c.in_ok-stack.field-0 at keeps c.get.ensures.value (c.in_ok-stack.ensures seen l agrees)) in
-    let goes = c.in_ok-rule-in-Ok.ensures s l entries at clean up tells agrees keeps in
+    let goes = c.in_ok-rule-in-Ok.ensures steps are s l entries at clean up tells agrees keeps in
     let behind = visit_behind l seen needed s entries c.met.new.table falling (seen_stack seen c.in-Ok.stack.items) c.met.new.stack c.fallen-before.result c.in_ok-rule-in-Ok.rule facts.falls before came tells.falls goes in
     subst (λ (r : Result (Option (Vec WorldType)) ℕ). Behind seen needed c.met.new.table r (visit l s entries falling))
     (sym (c.behind.ensures ∙ ap (λ (o : Option ℕ). left_behind o facts.falls c.met.new.stack) c.lower.ensures)) behind
 
 pub returns-in-Err : goal.returns-in-Err
 returns-in-Err g c =
-    λ s l entries at clean up tells agrees keeps.
+    λ steps are s l entries at clean up tells agrees keeps.
     let seen = g.S.Steps.seen c.args.steps.now in
-    let steps = g.S.Steps.steps c.args.steps.now in
     let facts = c.args.facts.now in
     let falling = seen_falling seen c.args.falling in
     let fell = fell_is seen steps s c.args.at facts tells c.args.falling c.is_some.result c.fallen-before.result c.is_some.ensures c.fallen-before.ensures in

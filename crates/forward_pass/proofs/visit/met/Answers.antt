@@ -8,9 +8,8 @@ use Rattle.forward_pass.proofs.visit.met.Goals as goal
 
 pub returns : goal.returns
 returns g c =
-    λ s l entries at clean up tells agrees keeps.
+    λ steps are s l entries at clean up tells agrees keeps.
     let seen = g.S.Steps.seen c.args.steps.now in
-    let steps = g.S.Steps.steps c.args.steps.now in
     let needed = is_needed steps s.next in
     let ts = seen_stack seen c.args.stack.now.items in
     let filled : c.filled-filled.result ≡ lowest_of (not_empty s.tries ts) =
@@ -24,4 +23,4 @@ returns g c =
     subst (λ (k : ℕ). Keeps seen needed c.keep.new.table (put k ts entries)) (sym (found_at steps c.args.at s at)) kept in
     subst (λ (o : Option ℕ). Goes seen needed s c.acted.new.table c.acted.new.stack.items o (met l s entries (Ok ts))) (sym c.lower.ensures)
     (met_goes l seen needed s entries c.acted.new.table ts c.acted.new.stack.items c.filled-filled.result c.in_ok-rule.rule filled
-    (c.in_ok-rule.ensures s l (put s.at ts entries) at clean tells agrees kept_there))
+    (c.in_ok-rule.ensures steps are s l (put s.at ts entries) at clean tells agrees kept_there))
