@@ -12,7 +12,7 @@ use Rattle.assemblies.specs.Rows.{Assembly}
 use Rattle.assemblies.specs.Chosen.{Choice}
 use Rattle.kept_closure.specs.Kept.{HasAll, IsNeeded}
 use Rattle.kept_rules.specs.Row.{Row, AssemblyRefAt, TypeRefAt, FieldRefAt, MethodRefAt, TypeAt, FieldAt, MethodAt, SpecAt, marks}
-use Rattle.kept_rules.specs.Rules.{root_row, then_row, MembersStand}
+use Rattle.kept_rules.specs.Rules.{root_row, first_row, then_row, MembersStand}
 use Rattle.kept_rules.proofs.LeastLaws.{and_both, rooted, spans, stands}
 use Rattle.kept_numbers.specs.Numbers.{IsThere, all_rows, number_of}
 use Rattle.kept_numbers.specs.Made.{AreMade}
@@ -84,7 +84,9 @@ module _ (size : ℕ) (ps : List Assembly) (base keep : ℕ → Choice) (rules :
   rules_there : IsClosed rules by_base
   rules_there k x e f s =
       let rule = made.is_rule k x e in
-      subst (λ (y : Rule). by_base y.then ≡ true) (sym rule.2) (same (then_row size ps rule.0) (spans size ps base has rule.0 (stands size ps base has stand rule.0 rule.1.0) rule.1.0))
+      let first : marks base (first_row size ps rule.0) ≡ true =
+      sym (ap (λ o. option_map_or (marks base) o false) (stands_at_number ps (first_row size ps rule.0) rule.1.0)) ∙ ap (λ (y : Rule). by_base y.first) (sym rule.2) ∙ f in
+      subst (λ (y : Rule). by_base y.then ≡ true) (sym rule.2) (same (then_row size ps rule.0) (spans size ps base has rule.0 (stands size ps base has stand rule.0 first) first))
 
   -- a marked row may be kept
   in_base : (r : Row) → IsThere ps r → holds bits (number_of ps r) ≡ true → marks base r ≡ true

@@ -10,8 +10,8 @@ use Rattle.kept_closure.specs.Kept.{HasAll, IsNeeded}
 use Rattle.kept_rules.specs.Row.{Row, marks}
 use Rattle.kept_rules.specs.Rules.{Root, root_row, RowRule, first_row, second_row, then_row, IsRuled, MembersStand}
 use Rattle.kept_rules.proofs.LeastLaws.{and_both, rooted, spans, stands, least_is_needed}
-use Rattle.kept_numbers.specs.Numbers.{all_rows, number_of}
-use Rattle.kept_numbers.specs.Made.{rule_of, AreMade}
+use Rattle.kept_numbers.specs.Numbers.{IsThere, all_rows, number_of}
+use Rattle.kept_numbers.specs.Made.{rule_of, AreThere, AreMade}
 use Rattle.kept_numbers.proofs.NumberLaws.{stands_at_number}
 
 -- whether the row at a place is one of a set
@@ -47,23 +47,26 @@ module _ (size : ℕ) (ps : List Assembly) (base keep : ℕ → Choice) (rules :
     abbrev by_number : ℕ → Bool
     by_number n = has_row other (slice_get (all_rows ps) n)
 
+    there : (r : Row) → IsThere ps r → by_number (number_of ps r) ≡ other r
+    there r t = ap (has_row other) (stands_at_number ps r t)
+
     same : (r : Row) → marks base r ≡ true → by_number (number_of ps r) ≡ other r
-    same r b = ap (has_row other) (stands_at_number ps r (made.there r b))
+    same r b = there r (made.there r b)
 
     has_roots : IsWithin roots by_number
     has_roots n e =
         let root = made.is_root n e in
         ap by_number root.1 ∙ same (root_row size ps root.0) (rooted_there root.0) ∙ closed.roots root.0
 
-    ruled_by : (r : RowRule size ps) → marks base (first_row size ps r) ≡ true → marks base (second_row size ps r) ≡ true → by_number (rule_of size ps r).first ≡ true → by_number (rule_of size ps r).second ≡ true → by_number (rule_of size ps r).then ≡ true
-    ruled_by r b c k l =
-        same (then_row size ps r) (given r b)
-        ∙ closed.rules r (sym (same (first_row size ps r) b) ∙ k) (sym (same (second_row size ps r) c) ∙ l)
+    ruled_by : (r : RowRule size ps) → AreThere size ps r → by_number (rule_of size ps r).first ≡ true → by_number (rule_of size ps r).second ≡ true → by_number (rule_of size ps r).then ≡ true
+    ruled_by r t k l =
+        there (then_row size ps r) t.2
+        ∙ closed.rules r (sym (there (first_row size ps r) t.0) ∙ k) (sym (there (second_row size ps r) t.1) ∙ l)
 
     has_rules : IsClosed rules by_number
     has_rules k x e =
         let rule = made.is_rule k x e in
-        subst (λ (y : Rule). by_number y.first ≡ true → by_number y.second ≡ true → by_number y.then ≡ true) (sym rule.2) (ruled_by rule.0 rule.1.0 rule.1.1)
+        subst (λ (y : Rule). by_number y.first ≡ true → by_number y.second ≡ true → by_number y.then ≡ true) (sym rule.2) (ruled_by rule.0 rule.1)
 
     least : (r : Row) → marks keep r ≡ true → other r ≡ true
     least r k =

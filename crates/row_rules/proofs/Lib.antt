@@ -1,0 +1,4 @@
+pub mod LinkLaws
+pub mod TokenLaws
+pub mod SignatureLaws
+pub mod NameLaws

@@ -1,0 +1,10 @@
+use Rattle.std.proofs.Common.{take}
+use Rattle.file_tables.specs.Metadata.{rows_of}
+use Rattle.kept_rules.specs.Row.{MethodAt}
+use Rattle.world_rows.specs.Tokens.{methods}
+use Rattle.row_rules.specs.Links.{links_from, Adds}
+use Rattle.row_rules.specs.Named.{named_by_method}
+use Rattle.row_rules.proofs.rows.add_method_types.Given as goal
+
+abbrev pub invariant-loop-n : goal.invariant-loop-n
+invariant-loop-n l = Adds (links_from (MethodAt l.file) (named_by_method l.file l.tables) 0 (take l.n (rows_of l.tables methods))) l.fn.rules l.rules
