@@ -15,7 +15,7 @@ use Rattle.machine_typed.specs.Typing.{has_body}
 use Rattle.file_tables.specs.Bytes.{has_bit}
 use Rattle.classes.specs.Classes.{Class, Classes, OwnField, OwnMethod}
 use Rattle.classes.specs.Reading.{IsRead}
-use Rattle.classes.specs.Queries.{flag_eq}
+use Rattle.classes.specs.Queries.{flag_eq, methods_of}
 use Rattle.classes.specs.Listed.{is_constructor}
 use Rattle.class_rules.specs.Rules.{is_user, only_if, is_native, constructor_fits, is_initialiser_name, initialiser_fits, holds_some, extends_well, may_be_implemented, implements_well, value_well, field_signature_fits, method_signature_fits, signature_fits, field_stands_well, method_stands_well, slots_filled, entry_fits, Keeps}
 use Rattle.class_rules.proofs.Kept.{holds_inv, only_then, all_by}
@@ -114,6 +114,9 @@ module _ (files : List FilePart) where
 
   abbrev ps : List Assembly
   ps = assemblies_of files
+
+  abbrev pub OwnsAll : Type 0
+  OwnsAll = (c : Id) (i : ℕ) (m : OwnMethod) → slice_get (methods_of cs c) i ≡ Some m → cs.method_owner m.id ≡ Some c
 
   module _ (in_types : phase_fault (type_rules w) files ≡ None) where
     class_kept : (c : Id) (k : Class) → cs.class c ≡ Some k → (r : ClassRow files c k) × (first_fault c.file type_defs (suc c.row) (class_tests w r.file.metadata c r.row k) ≡ None)
@@ -217,7 +220,7 @@ module _ (files : List FilePart) where
               let all = (and_parts (list_all (in_class w (λ c k. field_stands_well c k f)) (field_owners w c.file a.number)) (has_bytes w c.file a.number f) h).0 in
               sym (ap (λ o. holds_some o (λ k. field_stands_well c k f)) there) ∙ a.owned (in_class w (λ c k. field_stands_well c k f)) all
 
-        module _ (read : IsRead n cs) (i : ℕ) (m : OwnMethod) (e : slice_get k.methods i ≡ Some m) where
+        module _ (owns : OwnsAll) (i : ℕ) (m : OwnMethod) (e : slice_get k.methods i ≡ Some m) where
           b : MethodAt files c m
           b = method_at files c k i m there e
 
@@ -231,7 +234,7 @@ module _ (files : List FilePart) where
               (none_wrong 27 (method_wrong w c.file b.file.metadata (c.file == 0) (bytes_at b.file.metadata (slice_index b.row 4))) (tests_kept c.file methods (suc b.number) (method_tests w c.file b.file b.number b.row) 0 method_kept))
 
           owner : (ecma_sources files).classes.method_owner m.id ≡ Some c
-          owner = read.owner c i m (ap (λ o. slice_get (unwrap_or (option_map (λ (z : Class). z.methods) o) []) i) there ∙ e)
+          owner = owns c i m (ap (λ o. slice_get (unwrap_or (option_map (λ (z : Class). z.methods) o) []) i) there ∙ e)
 
           method_stands : method_stands_well cs c k m ≡ true
           method_stands =
@@ -245,6 +248,10 @@ module _ (files : List FilePart) where
               let plain = subst (λ (z : OwnMethod). is_plain_method z.id.file b.row ≡ true) (sym b.is) parts.0 in
               stands_by_itself c k m c.file b.number b.row b.file b.is_file b.is_row refl plain (sym (ap (λ (z : OwnMethod). z.body) b.is)) mine
 
+      -- where each method is its class's
+      pub methods_stand : OwnsAll → (c : Id) (k : Class) → cs.class c ≡ Some k → list_all (method_stands_well cs c k) k.methods ≡ true
+      methods_stand owns c k there = all_by (method_stands_well cs c k) k.methods (method_stands c k there owns)
+
       pub keeps : phase_fault (slot_rules w) files ≡ None → IsRead n cs → Keeps n cs
       keeps in_slots read =
           record {
@@ -252,9 +259,9 @@ module _ (files : List FilePart) where
             implements = implements;
             values = values;
             field_signatures = λ c k there. all_by (field_signature_fits cs) k.fields (field_signature c k there);
-            method_signatures = λ c k there. all_by (method_signature_fits cs c) k.methods (method_signature c k there read);
+            method_signatures = λ c k there. all_by (method_signature_fits cs c) k.methods (method_signature c k there read.owner);
             fields = λ c k there. all_by (field_stands_well c k) k.fields (field_stands c k there);
-            methods = λ c k there. all_by (method_stands_well cs c k) k.methods (method_stands c k there read);
+            methods = methods_stand read.owner;
             slots = slots;
           }
         where

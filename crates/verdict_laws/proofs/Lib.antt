@@ -1,7 +1,7 @@
-mod Kept
-mod Rows
-mod Signatures
-mod Keeps
+pub mod Kept
+pub mod Rows
+pub mod Signatures
+pub mod Keeps
 mod Listing
 mod Codes
 pub mod VerdictLaws

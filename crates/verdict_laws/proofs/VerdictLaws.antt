@@ -12,14 +12,14 @@ use Rattle.code_rules.specs.Judgement.{CodesFit, typing_of}
 use Rattle.code_rules.proofs.AcceptedLaws.{accepted_is_typed}
 use Rattle.assemblies.specs.Binding.{id_at}
 use Rattle.world_rows.specs.World.{type_count, rows_alone, ecma_sources, ecma_program}
-use Rattle.world_rows.proofs.Opened.{types_stand}
+use Rattle.world_rows.specs.Read.{TypesStand}
 use Rattle.base_rows.specs.Facts.{base}
 use Rattle.base_rows.proofs.BaseLaws.{base_facts, base_is_read}
 use Rattle.verdict_rules.specs.Order.{phase_fault}
 use Rattle.verdict_rules.specs.World.{World, world_of, exception_of}
 use Rattle.verdict_rules.specs.Types.{type_rules}
 use Rattle.verdict_rules.specs.Code.{slot_rules, code_rules}
-use Rattle.verdict_rules.specs.Verdict.{member_rules, phases_fault, all_phases, Accepted, verdict_by, Opened, verdict}
+use Rattle.verdict_rules.specs.Verdict.{member_rules, phases_fault, all_phases, Accepted, verdict_by, verdict}
 use Rattle.verdict_laws.proofs.Kept.{each_kept}
 use Rattle.verdict_laws.proofs.Keeps.{entry, keeps}
 use Rattle.verdict_laws.proofs.Codes.{codes_fit}
@@ -53,8 +53,8 @@ module _ (files : List FilePart) (accepted : verdict files ≡ Accepted) where
 -- ---- over the base library
 
 module _ (xs : List FilePart) (accepted : verdict (base xs) ≡ Accepted) where
-  pub rules : Opened xs → Keeps (type_count (rows_alone (base xs))) (ecma_sources (base xs)).classes
-  rules opened = keeps (base xs) (in_types (base xs) accepted) (in_members (base xs) accepted) (in_slots (base xs) accepted) (base_is_read xs (types_stand xs opened))
+  pub rules : TypesStand xs → Keeps (type_count (rows_alone (base xs))) (ecma_sources (base xs)).classes
+  rules stand = keeps (base xs) (in_types (base xs) accepted) (in_members (base xs) accepted) (in_slots (base xs) accepted) (base_is_read xs stand)
 
   pub begins : entry_fits (ecma_sources (base xs)) ≡ true
   begins = entry (base xs) (in_types (base xs) accepted) (suc (length xs)) refl
@@ -71,10 +71,10 @@ module _ (xs : List FilePart) (accepted : verdict (base xs) ≡ Accepted) where
   pub code : CodesFit (ecma_sources (base xs)) (exception_of (world_of (base xs)))
   code = subst (CodesFit (ecma_sources (base xs))) (sym exception_is) fit
 
-  pub typed : Opened xs → Typed (ecma_program (base xs)) (typing_of (ecma_sources (base xs)) (exception_of (world_of (base xs))))
-  typed opened =
+  pub typed : TypesStand xs → Typed (ecma_program (base xs)) (typing_of (ecma_sources (base xs)) (exception_of (world_of (base xs))))
+  typed stand =
       subst (λ z. Typed (ecma_program (base xs)) (typing_of (ecma_sources (base xs)) z)) (sym exception_is)
-      (accepted_is_typed (type_count (rows_alone (base xs))) (ecma_sources (base xs)) (base_is_read xs (types_stand xs opened)) based (rules opened) begins fit)
+      (accepted_is_typed (type_count (rows_alone (base xs))) (ecma_sources (base xs)) (base_is_read xs stand) based (rules stand) begins fit)
 
-  pub never_sticks : Opened xs → (steps most : ℕ) → is_stuck (trace (ecma_program (base xs)) steps most).finish ≡ false
-  never_sticks opened steps most = never_stuck (ecma_program (base xs)) (typing_of (ecma_sources (base xs)) (exception_of (world_of (base xs)))) (typed opened) steps most
+  pub never_sticks : TypesStand xs → (steps most : ℕ) → is_stuck (trace (ecma_program (base xs)) steps most).finish ≡ false
+  never_sticks stand steps most = never_stuck (ecma_program (base xs)) (typing_of (ecma_sources (base xs)) (exception_of (world_of (base xs)))) (typed stand) steps most
