@@ -1,8 +1,10 @@
 -- What two types leave where neither is assignable to the other, and where one is.
 use Rattle.std.proofs.Common.{◌≡◌, ◌⊎◌, inl, inr, ℕ, zero, suc, ◌<◌, Bool, true, false, Option, Some, None, refl, sym, ap, ◌∙◌, arith}
-use Rattle.std.specs.Prelude.{if◌then◌else◌}
+use Rattle.std.specs.Prelude.{if◌then◌else◌, IfSome}
+use Rattle.std.specs.Option.{option_map}
 use Rattle.std.proofs.lemmas.Bool.{cases_Bool, both_ways}
 use Rattle.ecma_types.specs.declared.stack.PlaceType.{PlaceType as WorldPlace}
+use Rattle.ecma_types.specs.declared.stack.StackType.{StackType as WorldType}
 use Rattle.machine.specs.Data.{Id, Cell, Bits, Refers, CliType, Basic, EnumOf, ClassOf, ValueOf, ArrayOf, cell_of, type_eq}
 use Rattle.machine.specs.Program.{Program}
 use Rattle.machine_typed.specs.Typing.{StackType, I, L, Nil, O, H, P, Never, agree_by, agrees, assignable}
@@ -11,11 +13,12 @@ use Rattle.classes.specs.Classes.{Classes}
 use Rattle.classes.specs.Queries.{array, class_of, elements_by, fits}
 use Rattle.class_rules.specs.Merge.{above_both, joined, merge, merge_others, of_arrays, of_classes, stack_type_eq}
 use Rattle.class_rules.proofs.Ways.{or_left}
-use Rattle.place_types.specs.Types.{arrays}
+use Rattle.place_types.specs.Types.{arrays, stack_down, stack_in, stack_of, stack_up}
+use Rattle.place_types.proofs.RowLaws.{stack_comes}
 use Rattle.class_order.specs.declared.types.BaseType.{BaseType}
 use Rattle.class_order.specs.declared.types.BaseType.TheVariants as base
 use Rattle.class_order.specs.Types.{base_seen}
-use Rattle.cil_types.specs.Rows.{FitsAs, base_in, type_in}
+use Rattle.cil_types.specs.Rows.{FitsAs, HasRow, base_in, type_in}
 use Rattle.cil_types.proofs.RowLaws.{place_in}
 
 module _ (cs : Classes) where
@@ -130,3 +133,18 @@ module _ (cs : Classes) where
 
     pub merge_rest : (a b : StackType) → assignable p b a ≡ false → assignable p a b ≡ false → merge_others cs a b ≡ merge p cs a b
     merge_rest a b e h = sym (past_first a b e ∙ ap (λ t. if t then Some b else merge_others cs a b) h)
+
+-- ---- spellings
+
+pub comes_down : (both : Option WorldType) (u : Option StackType) → option_map stack_of both ≡ option_map stack_up u → option_map stack_in both ≡ u
+comes_down None None e = refl
+comes_down None (Some u) e = absurd (cc e)
+comes_down (Some t) None e = absurd (cc e)
+comes_down (Some t) (Some u) e = let one : stack_of t ≡ stack_up u = cc e in ap (λ x. Some (stack_down x)) one ∙ ap Some (stack_comes u)
+
+pub has_row : (both : Option WorldType) (u : Option StackType) → option_map stack_of both ≡ option_map stack_up u → IfSome both HasRow
+has_row None u e = tt
+has_row (Some t) None e = absurd (cc e)
+has_row (Some t) (Some u) e =
+    let one : stack_of t ≡ stack_up u = cc e in
+    ap (λ x. stack_up (stack_down x)) one ∙ (ap stack_up (stack_comes u) ∙ sym one)

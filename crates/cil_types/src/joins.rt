@@ -1,6 +1,6 @@
 //! What two paths that join leave on the stack (ECMA-335 III.1.8.1.3).
 
-ghost use Rattle.std.specs.Prelude.{◌≡◌, Some, IfOk};
+ghost use Rattle.std.specs.Prelude.{◌≡◌, Some, IfOk, IfSome};
 ghost use Rattle.std.specs.Option.{option_map};
 ghost use Rattle.machine.specs.Program.{Program};
 ghost use Rattle.machine_typed.specs.Typing.{O};
@@ -9,8 +9,8 @@ ghost use Rattle.class_rules.specs.Merge.{above_both, joined, merge, merge_other
 ghost use Rattle.member_keys.specs.Seen.{class_seen};
 ghost use Rattle.class_table.specs.Seen.{classes_seen};
 ghost use Rattle.class_order.specs.Types.{AreOrdered};
-ghost use Rattle.place_types.specs.Types.{stack_in};
-ghost use Rattle.cil_types.specs.Rows.{FitsAs, type_in};
+ghost use Rattle.place_types.specs.Types.{stack_in, stack_of, stack_up, type_of};
+ghost use Rattle.cil_types.specs.Rows.{FitsAs, HasRow, type_in};
 ghost use Rattle.cil_types.specs.Spelt.{AreSpelt};
 
 use crate::fits::assignable;
@@ -24,9 +24,9 @@ use plain_types::fault::NoMemory;
 use std::alloc::Global;
 
 /// References of a class; of Object where there is none.
+#[tactic(auto, using(crate::proofs::SpellLaws::class_told))]
 fn references_of(order: &Order<'_, '_>, class: Option<ClassId>) -> Result<PlaceType, NoMemory>
-    requires { AreSpelt (classes_seen order.now.table.now) }
-    ensures { IfOk result (λ place. O (type_in place) ≡ above_both (classes_seen order.now.table.now) (option_map class_seen class)) }
+    ensures { IfOk result (λ place. AreSpelt (classes_seen order.now.table.now) → O (type_of place) ≡ stack_up (above_both (classes_seen order.now.table.now) (option_map class_seen class))) }
 {
     match class {
         Some(class) => place_of(type_of_class(order.table, class)),
@@ -36,9 +36,8 @@ fn references_of(order: &Order<'_, '_>, class: Option<ClassId>) -> Result<PlaceT
 
 /// What stands for references of two classes: those of the nearest class above both; of an interface those of Object.
 fn join_two(order: &Order<'_, '_>, a: ClassId, b: ClassId) -> Result<PlaceType, NoMemory>
-    requires order { AreOrdered order.now }
-    requires spelt { AreSpelt (classes_seen order.now.table.now) }
-    ensures { IfOk result (λ place. O (type_in place) ≡ of_classes (classes_seen order.now.table.now) (Some (class_seen a)) (Some (class_seen b))) }
+    requires { AreOrdered order.now }
+    ensures { IfOk result (λ place. AreSpelt (classes_seen order.now.table.now) → O (type_of place) ≡ stack_up (of_classes (classes_seen order.now.table.now) (Some (class_seen a)) (Some (class_seen b)))) }
 {
     if is_interface(order.table, a) || is_interface(order.table, b) {
         return Ok(object());
@@ -52,9 +51,8 @@ fn join_classes(
     a: Option<ClassId>,
     b: Option<ClassId>,
 ) -> Result<PlaceType, NoMemory>
-    requires order { AreOrdered order.now }
-    requires spelt { AreSpelt (classes_seen order.now.table.now) }
-    ensures { IfOk result (λ place. O (type_in place) ≡ of_classes (classes_seen order.now.table.now) (option_map class_seen a) (option_map class_seen b)) }
+    requires { AreOrdered order.now }
+    ensures { IfOk result (λ place. AreSpelt (classes_seen order.now.table.now) → O (type_of place) ≡ stack_up (of_classes (classes_seen order.now.table.now) (option_map class_seen a) (option_map class_seen b))) }
 {
     match (a, b) {
         (Some(a), Some(b)) => join_two(order, a, b),
@@ -77,9 +75,8 @@ fn class_in(order: &Order<'_, '_>, of: &PlaceType) -> Option<ClassId>
 
 /// What stands for references of two types of which neither fits where the other is wanted.
 fn join(order: &Order<'_, '_>, a: &PlaceType, b: &PlaceType) -> Result<PlaceType, NoMemory>
-    requires order { AreOrdered order.now }
-    requires spelt { AreSpelt (classes_seen order.now.table.now) }
-    ensures { IfOk result (λ place. O (type_in place) ≡ joined (classes_seen order.now.table.now) (type_in a.now) (type_in b.now)) }
+    requires { AreOrdered order.now }
+    ensures { IfOk result (λ place. AreSpelt (classes_seen order.now.table.now) → O (type_of place) ≡ stack_up (joined (classes_seen order.now.table.now) (type_in a.now) (type_in b.now))) }
 {
     let a_base = base_of(a);
     let b_base = base_of(b);
@@ -96,9 +93,8 @@ fn join_others(
     a: &StackType,
     b: &StackType,
 ) -> Result<Option<StackType>, NoMemory>
-    requires order { AreOrdered order.now }
-    requires spelt { AreSpelt (classes_seen order.now.table.now) }
-    ensures { IfOk result (λ both. option_map stack_in both ≡ merge_others (classes_seen order.now.table.now) (stack_in a.now) (stack_in b.now)) }
+    requires { AreOrdered order.now }
+    ensures { IfOk result (λ both. AreSpelt (classes_seen order.now.table.now) → option_map stack_of both ≡ option_map stack_up (merge_others (classes_seen order.now.table.now) (stack_in a.now) (stack_in b.now))) }
 {
     match (a, b) {
         (StackType::O(a), StackType::O(b)) => Ok(Some(StackType::O(join(order, a, b)?))),
@@ -107,16 +103,17 @@ fn join_others(
 }
 
 /// The type that stands for both where two paths join, and `None` where there is none: the first to which the other is assignable; of
-/// other references those of the nearest class above both, of arrays System.Array, or Object.
+/// other references those of the nearest class above both, of arrays System.Array, or Object. What it is holds where the classes' kinds
+/// have spellings; and its class has a row where those of both types have.
 pub fn merge(
     alloc: Global,
     order: &Order<'_, '_>,
     a: &StackType,
     b: &StackType,
 ) -> Result<Option<StackType>, NoMemory>
-    requires order { AreOrdered order.now }
-    requires spelt { AreSpelt (classes_seen order.now.table.now) }
-    ensures { IfOk result (λ both. (p : Program) → FitsAs (classes_seen order.now.table.now) p → option_map stack_in both ≡ merge p (classes_seen order.now.table.now) (stack_in a.now) (stack_in b.now)) }
+    requires { AreOrdered order.now }
+    ensures merged { IfOk result (λ both. AreSpelt (classes_seen order.now.table.now) → (p : Program) → FitsAs (classes_seen order.now.table.now) p → option_map stack_in both ≡ merge p (classes_seen order.now.table.now) (stack_in a.now) (stack_in b.now)) }
+    ensures row { IfOk result (λ both. AreSpelt (classes_seen order.now.table.now) → HasRow a.now → HasRow b.now → IfSome both HasRow) }
 {
     if assignable(alloc, order, b, a)? {
         return Ok(Some(*a));

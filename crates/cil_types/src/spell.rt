@@ -1,12 +1,11 @@
 //! Types of the table as those of the world, whose rows count from 1.
 
-ghost use Rattle.std.specs.Prelude.{◌≡◌, ◌<◌, true, false, IfOk};
+ghost use Rattle.std.specs.Prelude.{◌≡◌, true, false, IfOk};
 ghost use Rattle.plain_types.specs.declared.elem.Elem.TheVariants as elem;
 ghost use Rattle.machine.specs.Data.{Basic};
 ghost use Rattle.member_keys.specs.Seen.{class_seen};
-ghost use Rattle.place_types.specs.Types.{id_down, id_of};
+ghost use Rattle.place_types.specs.Types.{id_of, id_up, type_of, type_up};
 ghost use Rattle.class_order.specs.Types.{base_seen};
-ghost use Rattle.cil_types.specs.Rows.{type_in};
 ghost use Rattle.cil_types.specs.Spelt.{type_spelt};
 
 use class_order::BaseType;
@@ -24,8 +23,7 @@ const NO_TYPE: TypeId = TypeId { file: 0, row: 0 };
 
 /// The row of a class, which counts from 1. There is no room for those of more than 65,536 files.
 fn row_of(class: ClassId) -> Result<TypeId, NoMemory>
-    ensures class { IfOk result (λ of. id_down (id_of of) ≡ class_seen class) }
-    ensures row { IfOk result (λ of. 0 < of.row) }
+    ensures { IfOk result (λ of. id_of of ≡ id_up (class_seen class)) }
 {
     if class.file >= FILES || class.row == u32::MAX {
         return Err(NoMemory);
@@ -50,16 +48,15 @@ fn place(elem: Elem, of: TypeId) -> PlaceType
 
 /// Object.
 pub fn object() -> PlaceType
-    ensures { type_in result ≡ Basic elem.Object }
+    ensures { type_of result ≡ Basic elem.Object }
 {
     place(Elem::Object, NO_TYPE)
 }
 
-/// The spelling of a type of a class.
+/// The spelling of a type of a class, where it has one.
 #[tactic(auto, using(crate::proofs::SpellLaws::basic_place, crate::proofs::SpellLaws::enum_place))]
 pub fn place_of(of: BaseType) -> Result<PlaceType, NoMemory>
-    requires { type_spelt (base_seen of) ≡ true }
-    ensures { IfOk result (λ place. type_in place ≡ base_seen of) }
+    ensures { IfOk result (λ place. type_spelt (base_seen of) ≡ true → type_of place ≡ type_up (base_seen of)) }
 {
     match of {
         BaseType::Basic(elem) => Ok(place(elem, NO_TYPE)),
