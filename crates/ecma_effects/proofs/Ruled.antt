@@ -6,23 +6,21 @@ use Rattle.std.specs.List.{position, find}
 use Rattle.std.proofs.lemmas.Bool.{and_parts, both_ways}
 use Rattle.plain_types.specs.declared.elem.Elem.{Elem}
 use Rattle.plain_types.specs.declared.elem.Elem.TheVariants as elem
-use Rattle.machine.specs.Data.{Id, id_eq, CliType, elem_cell}
+use Rattle.machine.specs.Data.{Id, id_eq, CliType, Cell, cell_of, elem_cell}
 use Rattle.machine.specs.Program.{Body, Code, Native, Missing}
 use Rattle.machine.specs.Throw.{on_some}
-use Rattle.machine_typed.specs.Typing.{is_plain, has_body}
+use Rattle.machine_typed.specs.Typing.{is_refers, is_number, is_bits, is_plain, has_body}
 use Rattle.machine_typed.proofs.Types.{id_same}
-use Rattle.classes.specs.Classes.{Classes, Class, OwnField, OwnMethod, SigType, Signature, FieldKind, InstanceField, StaticField, LiteralField, DataField, TypeKind, Builtin, Enumeration, OtherValue, Reference}
-use Rattle.classes.specs.Queries.{basic, array, some_eq, is_integer, kind_of, is_instance, is_instance_kind, is_static_kind, fields_of, methods_of, instance_fields, field_types, fields, field_at, flag_eq}
+use Rattle.classes.specs.Classes.{Classes, Class, OwnField, OwnMethod, SigType, Spelt, ClassToken, ValueToken, ArraySig, Signature, FieldKind, InstanceField, StaticField, LiteralField, DataField, TypeKind, Builtin, Enumeration, OtherValue, Reference}
+use Rattle.classes.specs.Queries.{basic, array, some_eq, is_integer, kind_of, type_by_kind, is_instance, is_instance_kind, is_static_kind, fields_of, methods_of, instance_fields, field_types, fields, field_at, flag_eq}
 use Rattle.classes.specs.Queries.{type_of as type_in}
 use Rattle.classes.specs.Listed.{is_constructor}
 use Rattle.classes.specs.Reading.{IsRead}
-use Rattle.class_rules.specs.Base.{IsBase}
 use Rattle.class_rules.specs.Rules.{holds_some, is_user, only_if, is_native, is_void, value_well, sig_fits, data_sig_fits, is_data_kind, field_signature_fits, result_fits, signature_fits, method_signature_fits, constructor_fits, method_stands_well, Keeps}
 use Rattle.class_rules.proofs.Ways.{all_at}
 use Rattle.class_rules.proofs.Kept.{holds_inv, part_of}
 use Rattle.class_rules.proofs.Slots.{found}
 use Rattle.class_rules.proofs.FitsLaws.{both_some}
-use Rattle.class_rules.proofs.ProgramLaws.{sig_plain}
 use Rattle.verify_ops.specs.declared.facts.FieldOperand.{FieldOperand}
 use Rattle.verify_ops.specs.declared.facts.MethodOperand.{MethodOperand}
 use Rattle.verify_ops.specs.Facts.{is_string}
@@ -88,10 +86,40 @@ if_so : (a b : Bool) → only_if a b ≡ true → a ≡ true → b ≡ true
 if_so true b h e = h
 if_so false b h e = absurd (cc e)
 
-module _ (n : ℕ) (cs : Classes) (r : IsRead n cs) (b : IsBase cs) (k : Keeps n cs) (t : Tabled cs b) where
-  abbrev plain_sig : (s : SigType) → sig_fits cs s ≡ true → is_plain (type_in cs s) ≡ true
-  plain_sig s h = sig_plain n (record { classes = cs; code = λ id. None; entry = None }) r b k (λ id place. None) (λ id place at. false) s h
+refers_some : (q : Option Cell) → is_refers q ≡ true → is_some q ≡ true
+refers_some (Some c) h = refl
+refers_some None h = absurd (cc h)
 
+bits_some : (q : Option Cell) → is_bits q ≡ true → is_some q ≡ true
+bits_some (Some c) h = refl
+bits_some None h = absurd (cc h)
+
+some_here : (o : Option Id) (c : Id) → some_eq (Some c) o ≡ true → o ≡ Some c
+some_here None c h = absurd (cc h)
+some_here (Some d) c h = ap Some (sym (id_same c d h))
+
+-- a type that a signature may have is a plain one (27)
+refers_plain : (q : Option TypeKind) (c : Id) → is_refers (cell_of (type_by_kind q c)) ≡ true → is_plain (type_by_kind q c) ≡ true
+refers_plain None c h = refl
+refers_plain (Some Reference) c h = refl
+refers_plain (Some (Builtin g)) c h = refers_some (elem_cell g) h
+refers_plain (Some (Enumeration g)) c h = refers_some (elem_cell g) h
+refers_plain (Some OtherValue) c h = absurd (cc h)
+
+number_plain : (q : Option TypeKind) (c : Id) → is_number (type_by_kind q c) ≡ true → is_plain (type_by_kind q c) ≡ true
+number_plain None c h = absurd (cc h)
+number_plain (Some Reference) c h = absurd (cc h)
+number_plain (Some (Builtin g)) c h = bits_some (elem_cell g) h
+number_plain (Some (Enumeration g)) c h = bits_some (elem_cell g) h
+number_plain (Some OtherValue) c h = absurd (cc h)
+
+plain_sig : (cs : Classes) (s : SigType) → sig_fits cs s ≡ true → is_plain (type_in cs s) ≡ true
+plain_sig cs (Spelt e) h = h
+plain_sig cs (ClassToken c) h = refers_plain (kind_of cs c) c h
+plain_sig cs (ValueToken c) h = number_plain (kind_of cs c) c h
+plain_sig cs (ArraySig s) h = plain_sig cs s h
+
+module _ (n : ℕ) (cs : Classes) (r : IsRead n cs) (k : Keeps n cs) (t : Tabled cs) where
   -- ---- the kind of a class
 
   kind_there : (c : Id) (class : Class) → cs.class c ≡ Some class → kind_of cs c ≡ Some class.kind
@@ -118,10 +146,6 @@ module _ (n : ℕ) (cs : Classes) (r : IsRead n cs) (b : IsBase cs) (k : Keeps n
       to_string (Some (Builtin g)) h w s = ap (λ z. Some (Builtin z)) (string_element g s)
       to_string (Some (Enumeration g)) h w s = absurd (string_no_integer g w s)
 
-      some_here : (o : Option Id) → some_eq (Some c) o ≡ true → o ≡ Some c
-      some_here None h = absurd (cc h)
-      some_here (Some d) h = ap Some (sym (id_same c d h))
-
       by : (u v : Bool) → is_string (elem_of (kind_of cs c)) ≡ u → some_eq (Some c) (basic cs elem.String) ≡ v → u ≡ v
       by true true h w = refl
       by false false h w = refl
@@ -130,7 +154,7 @@ module _ (n : ℕ) (cs : Classes) (r : IsRead n cs) (b : IsBase cs) (k : Keeps n
           let one : some_eq (Some c) (basic cs elem.String) ≡ true = both_some (Some c) (basic cs elem.String) c refl (r.builtin c elem.String z) in
           sym one ∙ w
       by false true h w =
-          let z : kind_of cs c ≡ Some (Builtin elem.String) = r.basic_kind c elem.String (some_here (basic cs elem.String) w) in
+          let z : kind_of cs c ≡ Some (Builtin elem.String) = r.basic_kind c elem.String (some_here (basic cs elem.String) c w) in
           sym h ∙ ap (λ q. is_string (elem_of q)) z
 
   -- ---- fields
@@ -164,7 +188,7 @@ module _ (n : ℕ) (cs : Classes) (r : IsRead n cs) (b : IsBase cs) (k : Keeps n
     plain_if h =
         let s = signed_27 q.own (fits_27 q.owner stands.0 q.own stands.1) in
         let same : s.0 ≡ q.signature = (let both : Some s.0 ≡ Some q.signature = sym s.1 ∙ q.signed in cc both) in
-        plain_sig q.signature (subst (λ z. sig_fits cs z ≡ true) same (sym (ap (λ (d : Bool). if d then data_sig_fits cs s.0 else sig_fits cs s.0) h) ∙ s.2))
+        plain_sig cs q.signature (subst (λ z. sig_fits cs z ≡ true) same (sym (ap (λ (d : Bool). if d then data_sig_fits cs s.0 else sig_fits cs s.0) h) ∙ s.2))
 
     abbrev At : ℕ → Type 0
     At i = (position (λ g. id_eq g.id id) (instance_fields cs q.owner) ≡ Some i) × (slice_get (instance_fields cs q.owner) i ≡ Some q.own)
@@ -220,7 +244,7 @@ module _ (n : ℕ) (cs : Classes) (r : IsRead n cs) (b : IsBase cs) (k : Keeps n
         let w = holds_inv q.own.signature (signature_fits cs q.owner) (all_at (method_signature_fits cs q.owner) q.class.methods method_stands.0 q.own (k.method_signatures q.owner q.class q.class_is) in_class) in
         let same : w.0 ≡ q.signature = (let both : Some w.0 ≡ Some q.signature = sym w.1 ∙ q.signed in cc both) in
         let fit : result_fits cs w.0.returns ≡ true = (and_parts (result_fits cs w.0.returns) _ w.2).0 in
-        plain_sig s (sym (ap (λ (z : Signature). result_fits cs z.returns) same ∙ ap (result_fits cs) e) ∙ fit)
+        plain_sig cs s (sym (ap (λ (z : Signature). result_fits cs z.returns) same ∙ ap (result_fits cs) e) ∙ fit)
 
     abbrev rules : Type 0
     rules = (not (is_user q.owner && is_native q.own.body) ≡ true) × (only_if q.own.is_abstract q.own.is_virtual ≡ true) × (flag_eq (has_body q.own.body) (not q.own.is_abstract) ≡ true) × (only_if (is_constructor q.own) (constructor_fits cs q.owner q.class q.own) ≡ true)
@@ -275,9 +299,7 @@ module _ (n : ℕ) (cs : Classes) (r : IsRead n cs) (b : IsBase cs) (k : Keeps n
         by Missing false e w never = absurd (cc e)
 
     arrays_abstract : some_eq (Some q.owner) (array cs) ≡ true → q.class.is_abstract ≡ true
-    arrays_abstract h =
-        let same : q.owner ≡ b.arrays = id_same q.owner b.arrays (sym (ap (some_eq (Some q.owner)) b.arrays_is) ∙ h) in
-        sym (ap (λ z. holds_some z (λ (c : Class). c.is_abstract)) (sym (ap cs.class same) ∙ q.class_is)) ∙ t.arrays_abstract
+    arrays_abstract h = t.arrays_abstract q.owner q.class (some_here (array cs) q.owner h) q.class_is
 
     pub method_known : IsMethod cs id m
     method_known =

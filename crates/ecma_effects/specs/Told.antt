@@ -4,11 +4,10 @@ use Rattle.std.specs.Option.{option_map}
 use Rattle.file_tables.specs.Bytes.{has_bit}
 use Rattle.machine.specs.Data.{Id, Plain}
 use Rattle.classes.specs.Classes.{Classes, Class, OwnField, OwnMethod, SigType, Signature}
-use Rattle.classes.specs.Queries.{fields_of, methods_of, method_at, field_at}
+use Rattle.classes.specs.Queries.{array, fields_of, methods_of, method_at, field_at}
 use Rattle.classes.specs.Queries.{type_of as type_in, place_of as place_in}
 use Rattle.classes.specs.Listed.{is_constructor}
-use Rattle.class_rules.specs.Base.{IsBase}
-use Rattle.class_rules.specs.Rules.{holds_some, is_user, is_native}
+use Rattle.class_rules.specs.Rules.{is_user, is_native}
 use Rattle.place_types.specs.Types.{type_of, place_of, type_up, place_up}
 use Rattle.verify_ops.specs.declared.facts.FieldOperand.{FieldOperand}
 use Rattle.verify_ops.specs.declared.facts.MethodOperand.{MethodOperand}
@@ -46,9 +45,9 @@ pub record TellsMethod (cs : Classes) (id : Id) (m : MethodOperand) : Type 0 whe
   pub static : has_bit m.flags 4 ≡ own.is_static
   pub abstract : has_bit m.flags 10 ≡ own.is_abstract
 
-pub record Tabled (cs : Classes) (b : IsBase cs) : Type 0 where
+pub record Tabled (cs : Classes) : Type 0 where
   -- a row of a field belongs to one class, and is found there by its number (tables)
   pub entry : (c : Id) (i : ℕ) (g : OwnField) → slice_get (fields_of cs c) i ≡ Some g → field_at cs g.id ≡ Some g
   -- the class of arrays is abstract, and no constructor is native (the base library)
-  pub arrays_abstract : holds_some (cs.class b.arrays) (λ k. k.is_abstract) ≡ true
+  pub arrays_abstract : (c : Id) (k : Class) → array cs ≡ Some c → cs.class c ≡ Some k → k.is_abstract ≡ true
   pub constructors : (c : Id) (i : ℕ) (m : OwnMethod) → is_user c ≡ false → slice_get (methods_of cs c) i ≡ Some m → is_constructor m ≡ true → is_native m.body ≡ false

@@ -16,7 +16,6 @@ ghost use Rattle.ecma_types.specs.declared.stack.StackType.{StackType as WorldTy
 ghost use Rattle.verify_ops.specs.Effects.{effect_by, effect_of, shape_of, is_never, lowest};
 ghost use Rattle.classes.specs.Classes.{Classes};
 ghost use Rattle.classes.specs.Reading.{IsRead};
-ghost use Rattle.class_rules.specs.Base.{IsBase};
 ghost use Rattle.class_rules.specs.Rules.{Keeps};
 ghost use Rattle.verify_ops.specs.declared.facts.FieldOperand.{FieldOperand};
 ghost use Rattle.verify_ops.specs.declared.facts.MethodOperand.{MethodOperand};
@@ -40,6 +39,6 @@ pub fn effects_tell_steps()
 
 /// Of classes that break no rule, what rows tell of a field or a method is all that is asked of an operand.
 pub fn rows_tell_operands()
-    ensures field { (n : ℕ) (cs : Classes) → IsRead n cs → (b : IsBase cs) → Keeps n cs → Tabled cs b → (id : Id) (f : FieldOperand) → TellsField cs id f → IsField cs id f }
-    ensures method { (n : ℕ) (cs : Classes) → IsRead n cs → (b : IsBase cs) → Keeps n cs → Tabled cs b → (id : Id) (m : MethodOperand) → TellsMethod cs id m → IsMethod cs id m }
+    ensures field { (n : ℕ) (cs : Classes) → IsRead n cs → Keeps n cs → Tabled cs → (id : Id) (f : FieldOperand) → TellsField cs id f → IsField cs id f }
+    ensures method { (n : ℕ) (cs : Classes) → IsRead n cs → Keeps n cs → Tabled cs → (id : Id) (m : MethodOperand) → TellsMethod cs id m → IsMethod cs id m }
 {}

@@ -1,0 +1,5 @@
+mod Known
+mod Fields
+mod Natives
+pub mod BaseArrays
+pub mod JudgedLaws
