@@ -1,0 +1,4 @@
+pub mod BlobLaws
+pub mod LoadedLaws
+pub mod RowLaws
+pub mod PlaceLaws

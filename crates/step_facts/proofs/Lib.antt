@@ -1,0 +1,2 @@
+mod FrontLaws
+mod PlaceLaws
