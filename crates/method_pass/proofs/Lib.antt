@@ -1,0 +1,9 @@
+mod BeginLaws
+mod OperandLaws
+mod WholeLaws
+mod BrokenLaws
+mod MethodLaws
+mod BeforeLaws
+mod CodeLaws
+mod TokenLaws
+mod RowsLaws
