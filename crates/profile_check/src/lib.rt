@@ -4,9 +4,10 @@
 ghost use Rattle.std.specs.Prelude.{◌≡◌, IfOk};
 ghost use Rattle.verdict_rules.specs.Verdict.{profile};
 
+mod chains;
+
+pub use chains::{Chains, read_chains, setting_of};
 use cil_world::World;
-use class_checks::{Setting, find_library, find_under};
-use class_queries::{Way, chain_heights};
 use plain_types::fault::{Fault, NoMemory};
 use profile_order::{profile_fault, read_judge};
 use profile_subject::Subject;
@@ -18,20 +19,11 @@ pub fn check(alloc: Global, world: &World<'_>) -> Result<Option<Fault>, NoMemory
     ensures { IfOk result (λ fault. fault ≡ profile world.now) }
 {
     let table = world.classes();
-    let above = chain_heights(alloc, table, Way::Above)?;
-    let interfaces = chain_heights(alloc, table, Way::Interfaces)?;
-    let around = chain_heights(alloc, table, Way::Around)?;
-    let library = find_library(table);
-    let under = find_under(alloc, table, library, &above)?;
-    let setting = Setting {
-        table,
-        library,
-        above: &above,
-        interfaces: &interfaces,
-        around: &around,
-        under: &under,
+    let chains = read_chains(alloc, table)?;
+    let subject = Subject {
+        world,
+        setting: setting_of(table, &chains),
     };
-    let subject = Subject { world, setting };
     let judge = read_judge(alloc, &subject)?;
     profile_fault(alloc, &judge)
 }

@@ -1,0 +1,4 @@
+pub mod CountLaws
+pub mod OrderLaws
+pub mod PhaseLaws
+mod SoundLaws
