@@ -6,7 +6,7 @@ use Rattle.plain_types.specs.declared.fault.Fault.{Fault}
 use Rattle.mf_front.specs.declared.outcome.End.{End}
 use Rattle.mf_front.specs.declared.outcome.End.TheVariants.{Returned, StepsSpent}
 use Rattle.mf_front.specs.declared.outcome.Outcome.{Outcome}
-use Rattle.mf_front.specs.declared.outcome.Outcome.TheVariants.{Usage, Refused, ReadFault, NoMemory, ProfileAccepted, Ran}
+use Rattle.mf_front.specs.declared.outcome.Outcome.TheVariants.{Usage, Refused, ReadFault, NoMemory, Accepted, Ran}
 
 -- each line ends so
 abbrev pub line_end : List ℕ
@@ -24,9 +24,10 @@ place_text place =
 unfoldable pub refused_text : Fault → List ℕ → List ℕ
 refused_text fault file = codes "refused: rule " ++ decimal fault.rule ++ codes " " ++ file ++ place_text fault.place
 
--- how many files were accepted
-unfoldable pub accepted_text : ℕ → List ℕ
-accepted_text files = codes "profile accepted: " ++ decimal files ++ codes " files" ++ line_end
+-- how many files were accepted, and how many types and methods they have
+unfoldable pub accepted_text : ℕ → ℕ → ℕ → List ℕ
+accepted_text files types methods =
+    codes "accepted: " ++ decimal files ++ codes " files, " ++ decimal types ++ codes " types, " ++ decimal methods ++ codes " methods" ++ line_end
 
 unfoldable pub end_text : End → List ℕ
 end_text (Returned value) = codes "end: returned " ++ signed_decimal value ++ line_end
@@ -37,7 +38,7 @@ text_of Usage = usage_text
 text_of (Refused fault file) = refused_text fault file
 text_of (ReadFault file) = codes "read fault: " ++ file ++ line_end
 text_of NoMemory = codes "no memory" ++ line_end
-text_of (ProfileAccepted files) = accepted_text files
+text_of (Accepted files types methods) = accepted_text files types methods
 text_of (Ran status text) = text
 
 abbrev pub status_of : Outcome → ℕ
@@ -45,5 +46,5 @@ status_of Usage = 1
 status_of (Refused fault file) = 2
 status_of (ReadFault file) = 6
 status_of NoMemory = 8
-status_of (ProfileAccepted files) = 0
+status_of (Accepted files types methods) = 0
 status_of (Ran status text) = status

@@ -49,12 +49,10 @@ fn refused(alloc: Global, fault: &Fault, file: &str) -> Result<String, AllocErro
 
 /// The line of accepted files.
 #[tactic(auto, unfolding(crate::specs::Texts::accepted_text))]
-fn accepted(alloc: Global, files: u16) -> Result<String, AllocError>
-    ensures { IfOk result (λ text. string_bytes text ≡ accepted_text files) }
+fn accepted(alloc: Global, files: u16, types: u64, methods: u64) -> Result<String, AllocError>
+    ensures { IfOk result (λ text. string_bytes text ≡ accepted_text files types methods) }
 {
-    let mut text = labelled(alloc, "profile accepted: ", u32::from(files))?;
-    text.push_str(" files\n")?;
-    Ok(text)
+    format!(in alloc; "accepted: {files} files, {types} types, {methods} methods\n")
 }
 
 /// The line that tells want of memory; it takes none.
@@ -100,7 +98,11 @@ pub fn text(alloc: Global, outcome: &Outcome) -> Result<Vec<u8>, NoMemory>
             bytes_of(alloc, format!(in alloc; "read fault: {file}\n")?.as_str())?
         }
         Outcome::NoMemory => bytes_of(alloc, no_memory_text())?,
-        Outcome::ProfileAccepted { files } => bytes_of(alloc, accepted(alloc, *files)?.as_str())?,
+        Outcome::Accepted {
+            files,
+            types,
+            methods,
+        } => bytes_of(alloc, accepted(alloc, *files, *types, *methods)?.as_str())?,
         Outcome::Ran { text, .. } => Vec::from_slice(alloc, text.as_slice())?,
     })
 }
@@ -114,7 +116,7 @@ pub fn status(outcome: &Outcome) -> u8
         Outcome::Refused { .. } => 2,
         Outcome::ReadFault { .. } => 6,
         Outcome::NoMemory => 8,
-        Outcome::ProfileAccepted { .. } => 0,
+        Outcome::Accepted { .. } => 0,
         Outcome::Ran { status, .. } => *status,
     }
 }

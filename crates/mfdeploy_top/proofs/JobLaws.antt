@@ -1,7 +1,7 @@
 -- What a job comes to, by cases.
-use Rattle.std.proofs.Common.{◌≡◌, ℕ, zero, suc, subst, List, [], ◌∷◌, ◌++◌, length, map, take, Option, Some, None, refl, sym, ap, ◌∙◌, inl, inr, arith, IsTrue}
+use Rattle.std.proofs.Common.{◌≡◌, ℕ, zero, suc, subst, List, [], ◌∷◌, ◌++◌, length, map, take, Option, Some, refl, sym, ap, ◌∙◌, inl, inr, arith}
 use Rattle.std.specs.Prelude.{◌⊎◌, ◌+◌, ◌<◌, get_or, slice_get}
-use Rattle.std.proofs.lemmas.List.{map_more, take_more, map-append}
+use Rattle.std.proofs.lemmas.List.{map_more, map-append}
 use Rattle.mf_types.specs.StoreCalls.{StoreState}
 use Rattle.mf_front.specs.declared.jobs.Job.{Job}
 use Rattle.mf_front.specs.declared.outcome.Outcome.{Outcome}

@@ -1,4 +1,4 @@
 pub mod FormLemmas
 pub mod JobLaws
-pub mod ProfileLaws
+pub mod CheckLaws
 pub mod WritingLemmas

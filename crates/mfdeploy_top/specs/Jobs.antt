@@ -9,7 +9,7 @@ use Rattle.mf_front.specs.declared.outcome.Outcome.{Outcome}
 use Rattle.mf_front.specs.declared.outcome.Outcome.TheVariants.{Usage, ReadFault, NoMemory}
 use Rattle.mf_front.specs.Jobs.{files_of}
 use Rattle.mfdeploy_top.specs.FirstPath.{run_of}
-use Rattle.mfdeploy_top.specs.Profile.{check_of}
+use Rattle.mfdeploy_top.specs.Check.{check_of}
 use Rattle.mfdeploy_top.specs.declared.reading.Unread.{Unread}
 use Rattle.mfdeploy_top.specs.declared.reading.Unread.TheVariants as unread
 

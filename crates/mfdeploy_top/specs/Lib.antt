@@ -1,5 +1,5 @@
 pub mod FirstForm
 pub mod FirstPath
-pub mod Profile
+pub mod Check
 pub mod Jobs
 pub mod Writing

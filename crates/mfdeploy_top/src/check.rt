@@ -1,9 +1,16 @@
 //! What the job `check` makes of its files.
 
-ghost use Rattle.std.specs.Prelude.{◌≡◌, ◌≤◌, ◌+◌, ◌⊎◌, ◌++◌, [], IfOk, length, map, slice_get, unwrap_or};
-ghost use Rattle.mfdeploy_top.specs.Profile.{base_bytes, checked, told_name, check_of};
+ghost use Rattle.std.specs.Prelude.{◌≡◌, ◌≤◌, ◌+◌, ◌⊎◌, ◌++◌, List, [], ℕ, IfOk, length, map, slice_get, unwrap_or};
+ghost use Rattle.type_names.specs.Opening.{files_opened};
+ghost use Rattle.file_tables.specs.File.{FilePart};
+ghost use Rattle.world_rows.specs.Tokens.{type_defs, methods as method_rows};
+ghost use Rattle.verdict_rules.specs.Verdict.{verdict};
+ghost use Rattle.cil_verify.specs.Counts.{rows_behind};
+ghost use Rattle.cil_verify.specs.Seen.{seen};
+ghost use Rattle.mfdeploy_top.specs.Check.{base_bytes, IsBased, told_name, judged_of, told_of, check_of};
 
 use base_tables::library::{MSCORLIB_NAME, NATIVE_NAME};
+use cil_verify::{Verdict, count_methods, count_types, verdict};
 use cil_world::{World, WorldRefusal};
 use mf_front::Outcome;
 use plain_types::fault::{Fault, NoMemory};
@@ -11,7 +18,7 @@ use plain_types::list::Text;
 use std::alloc::Global;
 
 /// Files behind those of the base library.
-#[tactic(auto, using(crate::proofs::ProfileLaws::joined_count), unfolding(crate::specs::Profile::base_bytes))]
+#[tactic(auto, using(crate::proofs::CheckLaws::joined_count), unfolding(crate::specs::Check::base_bytes))]
 fn behind_base(alloc: Global, files: Vec<Vec<u8>>) -> Result<Vec<Vec<u8>>, NoMemory>
     ensures joined { IfOk result (λ all. map (λ bytes. bytes.items) all.items ≡ base_bytes ++ map (λ bytes. bytes.items) files.items) }
     ensures count { IfOk result (λ all. length all.items ≡ 2 + length files.items) }
@@ -21,20 +28,6 @@ fn behind_base(alloc: Global, files: Vec<Vec<u8>>) -> Result<Vec<Vec<u8>>, NoMem
         all.push(file)?;
     }
     Ok(all)
-}
-
-/// The first rule that files with these bytes break behind the base library.
-#[tactic(auto, unfolding(crate::specs::Profile::checked))]
-fn checked(alloc: Global, files: Vec<Vec<u8>>) -> Result<Option<Fault>, NoMemory>
-    requires { length files.items ≤ 1000 }
-    ensures { IfOk result (λ fault. fault ≡ checked (map (λ bytes. bytes.items) files.items)) }
-{
-    let all = behind_base(alloc, files)?;
-    match World::new(alloc, &all) {
-        Ok(world) => profile_check::check(alloc, &world),
-        Err(WorldRefusal::File(fault)) => Ok(Some(fault)),
-        Err(WorldRefusal::NoMemory) => Err(NoMemory),
-    }
 }
 
 /// The name of a file among those of the job; none where there is no such file.
@@ -48,7 +41,7 @@ fn name_at(files: &[Text], number: usize) -> &str
 }
 
 /// The name that a file of a world is told by.
-#[tactic(auto, using(crate::proofs::ProfileLaws::told_first, crate::proofs::ProfileLaws::told_second, crate::proofs::ProfileLaws::told_behind))]
+#[tactic(auto, using(crate::proofs::CheckLaws::told_first, crate::proofs::CheckLaws::told_second, crate::proofs::CheckLaws::told_behind))]
 fn told_name(files: &[Text], number: u16) -> &str
     ensures { result.now ≡ told_name files.now number }
 {
@@ -69,17 +62,64 @@ fn refused(alloc: Global, fault: Fault, name: &str) -> Outcome
     }
 }
 
+/// What a verdict comes to on files that have so many types and methods.
+fn told(alloc: Global, files: &[Text], found: Verdict, types: u64, methods: u64) -> Outcome
+    requires { length files.now ≤ 1000 }
+    ensures { (all : List FilePart) → types ≡ rows_behind all type_defs → methods ≡ rows_behind all method_rows → (result ≡ judged_of files.now all (seen found)) ⊎ (result ≡ Outcome.NoMemory) }
+{
+    match found {
+        Verdict::Accepted => Outcome::Accepted {
+            files: files.len() as u16,
+            types,
+            methods,
+        },
+        Verdict::Refused(fault) => refused(alloc, fault, told_name(files, fault.place.file)),
+    }
+}
+
+/// What files that keep the rules 1 to 13 come to, the first two of them the base library's.
+fn judged(alloc: Global, files: &[Text], world: &World<'_>) -> Outcome
+    requires base { IsBased world.now }
+    requires few { length files.now ≤ 1000 }
+    ensures { (result ≡ judged_of files.now world.now (verdict world.now)) ⊎ (result ≡ Outcome.NoMemory) }
+{
+    match verdict(alloc, world) {
+        Ok(found) => told(
+            alloc,
+            files,
+            found,
+            count_types(world),
+            count_methods(world),
+        ),
+        Err(NoMemory) => Outcome::NoMemory,
+    }
+}
+
+/// What all files of a world come to, the base library's and those of the job.
+#[tactic(auto, using(crate::proofs::CheckLaws::opened_behind))]
+fn opened(alloc: Global, files: &[Text], all: &[Vec<u8>]) -> Outcome
+    requires few { length files.now ≤ 1000 }
+    requires count { length all.now ≡ 2 + length files.now }
+    requires behind { (rest : List (List ℕ)) × (map (λ bytes. bytes.items) all.now ≡ base_bytes ++ rest) }
+    ensures { (result ≡ told_of files.now (files_opened (map (λ bytes. bytes.items) all.now))) ⊎ (result ≡ Outcome.NoMemory) }
+{
+    match World::new(alloc, all) {
+        Ok(world) => judged(alloc, files, &world),
+        Err(WorldRefusal::File(fault)) => {
+            refused(alloc, fault, told_name(files, fault.place.file))
+        }
+        Err(WorldRefusal::NoMemory) => Outcome::NoMemory,
+    }
+}
+
 /// What the bytes of files come to behind the base library.
 pub fn check(alloc: Global, files: &[Text], bytes: Vec<Vec<u8>>) -> Outcome
     requires few { length files.now ≤ 1000 }
     requires count { length bytes.items ≡ length files.now }
     ensures { (result ≡ check_of files.now (map (λ bytes. bytes.items) bytes.items)) ⊎ (result ≡ Outcome.NoMemory) }
 {
-    match checked(alloc, bytes) {
-        Ok(Some(fault)) => refused(alloc, fault, told_name(files, fault.place.file)),
-        Ok(None) => Outcome::ProfileAccepted {
-            files: files.len() as u16,
-        },
+    match behind_base(alloc, bytes) {
+        Ok(all) => opened(alloc, files, &all),
         Err(NoMemory) => Outcome::NoMemory,
     }
 }

@@ -33,9 +33,13 @@ fn outcomes_have_their_texts(rt: HostRuntime) -> Result<(), Fail> {
         (Outcome::ReadFault { file: other }, 6, "read fault: b.dll\n"),
         (Outcome::NoMemory, 8, "no memory\n"),
         (
-            Outcome::ProfileAccepted { files: 12 },
+            Outcome::Accepted {
+                files: 12,
+                types: 3,
+                methods: 40,
+            },
             0,
-            "profile accepted: 12 files\n",
+            "accepted: 12 files, 3 types, 40 methods\n",
         ),
         (
             Outcome::Ran {

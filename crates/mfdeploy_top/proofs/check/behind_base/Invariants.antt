@@ -1,7 +1,7 @@
 use Rattle.std.proofs.Common.{◌≡◌, ◌++◌, map}
 use Rattle.std.specs.Vec.Iter.{into_iter_items, into_iter_len}
 use Rattle.std.proofs.Common.{length}
-use Rattle.mfdeploy_top.specs.Profile.{base_bytes}
+use Rattle.mfdeploy_top.specs.Check.{base_bytes}
 use Rattle.mfdeploy_top.proofs.check.behind_base.Given as goal
 
 abbrev pub invariant-loop-file : goal.invariant-loop-file

@@ -1,4 +1,4 @@
-use Rattle.std.proofs.Common.{◌≡◌, ◌<◌, ◌∙◌, ℕ, map, take, length, Some, Err, sym, ap, subst, arith}
+use Rattle.std.proofs.Common.{◌∙◌, ℕ, map, Some, Err, sym, ap, subst, arith}
 use Rattle.std.proofs.lemmas.List.{length-map, length-take}
 use Rattle.plain_types.specs.Counts.{Rose}
 use Rattle.mf_types.specs.declared.store.FailedCall.TheVariants.{Read}

@@ -1,5 +1,4 @@
 use Rattle.std.proofs.Common.{◌≡◌, ℕ, List, map, take, length, Some, IsTrue}
-use Rattle.mfdeploy_top.specs.Jobs.{AreRead}
 use Rattle.mfdeploy_top.proofs.reading.read_files.Given as goal
 
 abbrev pub invariant-loop-file : goal.invariant-loop-file
