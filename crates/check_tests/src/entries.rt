@@ -1,11 +1,12 @@
 //! Rule 23: the entry (ECMA-335 II.15.4.1.2, II.25.3.3).
 
-use crate::change::Change;
-use crate::change::Change::Column;
-use crate::change::Value::Is;
-use crate::made::{Asked, Assembly, told_of};
 use crate::program::{A, FRONT, MAIN, OBJECT, PROGRAM, class, method, row};
 use crate::rows::{Told, fault};
+use crate::told::told_of;
+use assembly_rows::change::Change;
+use assembly_rows::change::Change::Column;
+use assembly_rows::change::Value::Is;
+use assembly_rows::made::{Asked, Assembly};
 use plain_types::fault::Fault;
 use std::test::Fail;
 

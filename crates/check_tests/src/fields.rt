@@ -1,9 +1,9 @@
 //! Rules 27, 28 and 30 of fields (ECMA-335 II.22.15, II.23.2.4).
 
-use crate::change::Change::Column;
-use crate::change::Value::Is;
 use crate::program::{A, ENUM, LIBRARY, OBJECT, VALUE_TYPE, class, field, reference, row};
 use crate::rows::{Changed, Rows, changes_are_told, rows_are_told};
+use assembly_rows::change::Change::Column;
+use assembly_rows::change::Value::Is;
 use std::test::Fail;
 
 #[rattlefmt::skip]

@@ -2,15 +2,11 @@
 #![tactic(auto)]
 
 #[cfg(test)]
-mod change;
-#[cfg(test)]
 mod entries;
 #[cfg(test)]
 mod fields;
 #[cfg(test)]
 mod library;
-#[cfg(test)]
-mod made;
 #[cfg(test)]
 mod methods;
 #[cfg(test)]
@@ -19,6 +15,8 @@ mod program;
 mod references;
 #[cfg(test)]
 mod rows;
+#[cfg(test)]
+mod told;
 #[cfg(test)]
 mod types;
 #[cfg(test)]

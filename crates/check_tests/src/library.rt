@@ -1,11 +1,12 @@
 //! Rule 30 of the base library's files, and what else is told of them.
 
-use crate::change::Change::{Column, Entry};
-use crate::change::Value::{Is, More};
-use crate::change::{Change, changed};
-use crate::made::{Assembly, made, told};
 use crate::program::{FRONT, MAIN};
 use crate::rows::{Told, fault};
+use crate::told::told;
+use assembly_rows::change::Change::{Column, Entry};
+use assembly_rows::change::Value::{Is, More};
+use assembly_rows::change::{Change, changed};
+use assembly_rows::made::{Assembly, made};
 use base_lib::files;
 use made_assembly::made as made_of_classes;
 use plain_types::fault::Fault;

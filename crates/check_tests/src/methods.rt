@@ -1,12 +1,12 @@
 //! Rules 27, 29 and 30 of methods (ECMA-335 II.22.26, II.23.2.1).
 
-use crate::change::Change;
-use crate::change::Change::Column;
-use crate::change::Value::Is;
 use crate::program::{
     A, ENUM, MODULE_TYPE, OBJECT, PROGRAM, VALUE_TYPE, class, field, method, row,
 };
 use crate::rows::{Changed, Rows, changes_are_told, rows_are_told};
+use assembly_rows::change::Change;
+use assembly_rows::change::Change::Column;
+use assembly_rows::change::Value::Is;
 use std::test::Fail;
 
 #[rattlefmt::skip]

@@ -1,6 +1,6 @@
 //! A program to which the tests add rows.
 
-use crate::made::Asked;
+use assembly_rows::made::Asked;
 use cil_build::refs::RefRow;
 
 /// A class with a name.
@@ -12,7 +12,7 @@ macro_rules! class {
         class!($flags, "", $name, $extends)
     };
     ($flags:expr, $namespace:expr, $name:expr, $extends:expr) => {
-        $crate::made::Asked::Type {
+        assembly_rows::made::Asked::Type {
             flags: $flags,
             namespace: $namespace,
             name: $name,
@@ -27,7 +27,7 @@ macro_rules! field {
         field!($flags, "field", $sig, &[])
     };
     ($flags:expr, $name:expr, $sig:expr, $bytes:expr) => {
-        $crate::made::Asked::Field {
+        assembly_rows::made::Asked::Field {
             flags: $flags,
             name: $name,
             sig: $sig,
@@ -45,7 +45,7 @@ macro_rules! method {
         method!(0, $flags, $name, $sig, $body)
     };
     ($impl_flags:expr, $flags:expr, $name:expr, $sig:expr, $body:expr) => {
-        $crate::made::Asked::Method {
+        assembly_rows::made::Asked::Method {
             impl_flags: $impl_flags,
             flags: $flags,
             name: $name,
@@ -58,7 +58,7 @@ macro_rules! method {
 /// A row of another table.
 macro_rules! row {
     ($kind:ident { $($field:ident: $value:expr),* }) => {
-        $crate::made::Asked::Other(cil_build::refs::RefRow::$kind { $($field: $value),* })
+        assembly_rows::made::Asked::Other(cil_build::refs::RefRow::$kind { $($field: $value),* })
     };
 }
 

@@ -1,8 +1,9 @@
 //! Tables of cases: rows behind a program, and what is told of it.
 
-use crate::change::Change;
-use crate::made::{Asked, Assembly, told_of};
 use crate::program::{FRONT, MAIN};
+use crate::told::told_of;
+use assembly_rows::change::Change;
+use assembly_rows::made::{Asked, Assembly};
 use plain_types::fault::{Fault, Place};
 use std::process::Abort;
 use std::test::Fail;

@@ -1,11 +1,11 @@
 //! Rules 20, 21 and 24 to 26: rows that have to be missing, superclasses, interfaces and value types.
 
-use crate::change::Change::Retable;
 use crate::program::{
     A, ARRAY, B, C, DISPOSABLE, ENUM, HANDLE, INT, LIBRARY, MISSING, MODULE_TYPE, NEXT_REFERENCE,
     OBJECT, PROGRAM, STRING, VALUE_TYPE, class, field, reference, row,
 };
 use crate::rows::{Changed, Rows, changes_are_told, rows_are_told};
+use assembly_rows::change::Change::Retable;
 use std::test::Fail;
 
 #[rattlefmt::skip]

@@ -1,10 +1,11 @@
 //! What is told of several files: names of assemblies, references between them, and the order of files and phases.
 
-use crate::made::{Assembly, told_of};
 use crate::program::{
     A, B, FRONT, LIBRARY, MAIN, MISSING, NEXT_REFERENCE, OBJECT, class, field, reference, row,
 };
 use crate::rows::{Told, fault};
+use crate::told::told_of;
+use assembly_rows::made::Assembly;
 use plain_types::fault::Fault;
 use std::test::Fail;
 

@@ -1,15 +1,11 @@
-//! Worlds for the tests: the base library, and assemblies made of rows.
+//! Assemblies made of rows.
 
 use crate::change::{Change, changed};
-use base_lib::files;
 use cil_build::build::{Build, BuildRefusal};
 use cil_build::refs::RefRow;
 use cil_layout::rows::{FIELD, METHOD_DEF, TYPE_DEF};
-use cil_world::World;
-use plain_types::fault::Fault;
-use profile_check::check;
+use plain_types::fault::Failed;
 use std::alloc::Global;
-use std::test::Fail;
 
 /// A row that is asked of the builder.
 #[derive(Clone, Copy)]
@@ -45,7 +41,8 @@ pub struct Assembly<'a> {
     pub changes: &'a [Change],
 }
 
-fn add(b: &mut Build, alloc: Global, row: &Asked<'_>) -> Result<u32, BuildRefusal> {
+/// Adds a row, and gives its token.
+pub fn add(b: &mut Build, alloc: Global, row: &Asked<'_>) -> Result<u32, BuildRefusal> {
     if !b.has_room(TYPE_DEF) || !b.has_room(FIELD) || !b.has_room(METHOD_DEF) {
         return Err(BuildRefusal::Full);
     }
@@ -97,34 +94,14 @@ fn built(
 }
 
 /// The bytes of an assembly, whose first rows are those of `front`.
-pub fn made(alloc: Global, front: &[Asked<'_>], assembly: &Assembly<'_>) -> Result<Vec<u8>, Fail> {
-    let mut file = built(alloc, front, assembly).ok().ok_or("it is made")?;
+pub fn made(
+    alloc: Global,
+    front: &[Asked<'_>],
+    assembly: &Assembly<'_>,
+) -> Result<Vec<u8>, Failed> {
+    let mut file = built(alloc, front, assembly).ok().ok_or(Failed)?;
     for change in assembly.changes {
         changed(&mut file, change)?;
     }
     Ok(file)
-}
-
-/// The first rule of 20 to 30 that files break, the first two of them the base library's. They break none of 1 to 13.
-pub fn told(alloc: Global, all: &[Vec<u8>]) -> Result<Option<Fault>, Fail> {
-    if all.len() < 2 || all.len() > 1002 {
-        None.ok_or("so few files")?
-    }
-    let world = World::new(alloc, all)
-        .ok()
-        .ok_or("no rule of 1 to 13 is broken")?;
-    Ok(check(alloc, &world)?)
-}
-
-/// The same of assemblies behind the base library.
-pub fn told_of(
-    alloc: Global,
-    front: &[Asked<'_>],
-    assemblies: &[Assembly<'_>],
-) -> Result<Option<Fault>, Fail> {
-    let mut all = files(alloc)?;
-    for assembly in assemblies {
-        all.push(made(alloc, front, assembly)?)?;
-    }
-    told(alloc, all.as_slice())
 }
