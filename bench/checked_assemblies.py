@@ -1,5 +1,5 @@
 #!/usr/bin/env python3
-"""Writes assemblies that break no rule on names, types and members: checked_assemblies.py SHAPE FOLDER [N]
+"""Writes assemblies that break no rule: checked_assemblies.py SHAPE FOLDER [N]
 
 SHAPE is one of these; N is how many of what it is made of:
   rows          one assembly of N rows (60,000) and nearly 4 MiB: types with superclasses, interfaces, fields, locals and
@@ -9,6 +9,8 @@ SHAPE is one of these; N is how many of what it is made of:
   interfaces    N interfaces (10,000), each under the one before
   scopes        N references (10,000), each to a type inside the one before
   members       N methods (20,000) of one name in one class, each with a signature of its own
+  branches      one method of 6 N instructions, of which N (10,000) are branches to places all over it, half of them backwards
+  switch        one method with a switch of N targets (10,000)
 The names of the files are printed, the one with the entry first.
 """
 import os
@@ -312,6 +314,39 @@ def make_members(count):
     return [a]
 
 
+def fat_body(code, most, locals_):
+    """A body with a header of twelve bytes, which says its depth and its locals."""
+    return struct.pack("<HHII", 0x3013, most, len(code), LOCALS << 24 | locals_) + code
+
+
+def with_method(name, code, most):
+    """An assembly with one more method, which takes and gives an int32 and has a local of that type."""
+    a = Assembly(name)
+    a.main()
+    a.under_object("Code")
+    locals_ = a.row(LOCALS, a.blob(bytes([7, 1, 8])))
+    a.method(STATIC, "Run", bytes([0, 1, 8, 8]), fat_body(code, most, locals_))
+    return [a]
+
+
+def make_branches(count):
+    """So often: one is added to the local, and a branch where it isn't 0."""
+    part = 10
+    code = bytearray()
+    for k in range(count):
+        # ldloc.0, ldc.i4.1, add, stloc.0, ldloc.0, brtrue
+        code += bytes([0x06, 0x17, 0x58, 0x0A, 0x06, 0x3A]) + struct.pack("<i", (k * 7919 % count - k - 1) * part)
+    return with_method("Branches", bytes(code) + RETURN, 2)
+
+
+def make_switch(count):
+    """Each target gives its number."""
+    part = 6
+    code = bytes([0x02, 0x45]) + struct.pack("<I", count) + b"".join(struct.pack("<i", 2 + part * k) for k in range(count))
+    cases = b"".join(bytes([0x20]) + struct.pack("<i", k) + bytes([0x2A]) for k in range(count))
+    return with_method("Switch", code + RETURN + cases, 1)
+
+
 SHAPES = {
     "rows": (make_rows, 60000),
     "files": (make_files, 1000),
@@ -319,6 +354,8 @@ SHAPES = {
     "interfaces": (make_interfaces, 10000),
     "scopes": (make_scopes, 10000),
     "members": (make_members, 20000),
+    "branches": (make_branches, 10000),
+    "switch": (make_switch, 10000),
 }
 
 

@@ -32,7 +32,12 @@ namespace System
     public class ParamArrayAttribute : Attribute { }
 
     [AttributeUsage(AttributeTargets.All)]
-    public class ObsoleteAttribute : Attribute { }
+    public class ObsoleteAttribute : Attribute
+    {
+        public ObsoleteAttribute() { }
+        public ObsoleteAttribute(string message) { }
+        public ObsoleteAttribute(string message, bool isError) { }
+    }
 
     [AttributeUsage(AttributeTargets.Enum)]
     public class FlagsAttribute : Attribute { }
@@ -61,10 +66,8 @@ namespace System.Runtime.CompilerServices
         public IndexerNameAttribute(string name) { }
     }
 
-    public class RuntimeCompatibilityAttribute : Attribute
-    {
-        public bool WrapNonExceptionThrows { get { return false; } set { } }
-    }
+    [AttributeUsage(AttributeTargets.Assembly | AttributeTargets.Class | AttributeTargets.Method)]
+    public class ExtensionAttribute : Attribute { }
 }
 
 namespace System.Runtime.InteropServices

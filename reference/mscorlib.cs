@@ -52,64 +52,66 @@ namespace System
         public static int Min(int a, int b) { return 0; }
     }
 
+    // In the base library these override the methods of Object. Said so here, a compiler would call Object's by the prefix
+    // `constrained.`, which isn't accepted; so it calls the type's own.
     public struct Boolean
     {
-        public override string ToString() { return null; }
-        public override bool Equals(object obj) { return false; }
+        public new string ToString() { return null; }
+        public new bool Equals(object obj) { return false; }
     }
 
     public struct Char
     {
-        public override string ToString() { return null; }
-        public override bool Equals(object obj) { return false; }
+        public new string ToString() { return null; }
+        public new bool Equals(object obj) { return false; }
     }
 
     public struct SByte
     {
-        public override string ToString() { return null; }
-        public override bool Equals(object obj) { return false; }
+        public new string ToString() { return null; }
+        public new bool Equals(object obj) { return false; }
     }
 
     public struct Byte
     {
-        public override string ToString() { return null; }
-        public override bool Equals(object obj) { return false; }
+        public new string ToString() { return null; }
+        public new bool Equals(object obj) { return false; }
     }
 
     public struct Int16
     {
-        public override string ToString() { return null; }
-        public override bool Equals(object obj) { return false; }
+        public new string ToString() { return null; }
+        public new bool Equals(object obj) { return false; }
     }
 
     public struct UInt16
     {
-        public override string ToString() { return null; }
-        public override bool Equals(object obj) { return false; }
+        public new string ToString() { return null; }
+        public new bool Equals(object obj) { return false; }
     }
 
     public struct Int32
     {
-        public override string ToString() { return null; }
-        public override bool Equals(object obj) { return false; }
+        public new string ToString() { return null; }
+        public new bool Equals(object obj) { return false; }
     }
 
     public struct UInt32
     {
-        public override string ToString() { return null; }
-        public override bool Equals(object obj) { return false; }
+        public new string ToString() { return null; }
+        public new bool Equals(object obj) { return false; }
     }
 
     public struct Int64
     {
-        public override string ToString() { return null; }
-        public override bool Equals(object obj) { return false; }
+        public new string ToString() { return null; }
+        public new bool Equals(object obj) { return false; }
     }
 
     public struct UInt64
     {
-        public override string ToString() { return null; }
-        public override bool Equals(object obj) { return false; }
+        public new string ToString() { return null; }
+        public new bool Equals(object obj) { return false; }
     }
 
     public class Number
@@ -119,9 +121,9 @@ namespace System
         public static string Unsigned(ulong value) { return null; }
     }
 
-    public class String
+    public sealed class String
     {
-        public static string Empty;
+        public static readonly string Empty;
         public String() { }
         public int Length { get { return 0; } }
         [IndexerName("Chars")]
@@ -268,15 +270,15 @@ namespace System.Collections
         public void RemoveAt(int index) { }
         public bool Contains(object value) { return false; }
         public void Clear() { }
-        public IEnumerator GetEnumerator() { return null; }
+        public virtual IEnumerator GetEnumerator() { return null; }
     }
 
     class ArrayListEnumerator : IEnumerator
     {
         public ArrayListEnumerator() { }
-        public bool MoveNext() { return false; }
-        public object Current { get { return null; } }
-        public void Reset() { }
+        public virtual bool MoveNext() { return false; }
+        public virtual object Current { get { return null; } }
+        public virtual void Reset() { }
     }
 }
 
