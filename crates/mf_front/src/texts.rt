@@ -14,7 +14,7 @@ use std::alloc::{AllocError, Global};
 const USAGE: &str = "usage: mfdeploy check FILES | run1 FILE STEPS\n";
 
 /// A label and a number behind it.
-fn labelled(alloc: Global, label: &str, number: u32) -> Result<String, AllocError>
+fn labelled(alloc: Global, label: &str, number: u64) -> Result<String, AllocError>
     ensures { IfOk result (λ text. string_bytes text ≡ label.now ++ decimal number) }
 {
     format!(in alloc; "{label}{number}")
@@ -25,9 +25,9 @@ fn labelled(alloc: Global, label: &str, number: u32) -> Result<String, AllocErro
 fn placed(alloc: Global, place: &Place) -> Result<String, AllocError>
     ensures { IfOk result (λ text. string_bytes text ≡ place_text place.now) }
 {
-    let mut text = labelled(alloc, " table ", u32::from(place.table))?;
-    let row = labelled(alloc, " row ", place.row)?;
-    let offset = labelled(alloc, " offset ", place.offset)?;
+    let mut text = labelled(alloc, " table ", u64::from(place.table))?;
+    let row = labelled(alloc, " row ", u64::from(place.row))?;
+    let offset = labelled(alloc, " offset ", u64::from(place.offset))?;
     text.push_str(row.as_str())?;
     text.push_str(offset.as_str())?;
     text.push_str("\n")?;
@@ -39,7 +39,7 @@ fn placed(alloc: Global, place: &Place) -> Result<String, AllocError>
 fn refused(alloc: Global, fault: &Fault, file: &str) -> Result<String, AllocError>
     ensures { IfOk result (λ text. string_bytes text ≡ refused_text fault.now file.now) }
 {
-    let mut text = labelled(alloc, "refused: rule ", u32::from(fault.rule))?;
+    let mut text = labelled(alloc, "refused: rule ", u64::from(fault.rule))?;
     let place = placed(alloc, &fault.place)?;
     text.push_str(" ")?;
     text.push_str(file)?;
@@ -52,7 +52,13 @@ fn refused(alloc: Global, fault: &Fault, file: &str) -> Result<String, AllocErro
 fn accepted(alloc: Global, files: u16, types: u64, methods: u64) -> Result<String, AllocError>
     ensures { IfOk result (λ text. string_bytes text ≡ accepted_text files types methods) }
 {
-    format!(in alloc; "accepted: {files} files, {types} types, {methods} methods\n")
+    let mut text = labelled(alloc, "accepted: ", u64::from(files))?;
+    let types = labelled(alloc, " files, ", types)?;
+    let methods = labelled(alloc, " types, ", methods)?;
+    text.push_str(types.as_str())?;
+    text.push_str(methods.as_str())?;
+    text.push_str(" methods\n")?;
+    Ok(text)
 }
 
 /// The line that tells want of memory; it takes none.

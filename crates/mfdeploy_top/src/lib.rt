@@ -25,7 +25,7 @@ use tell::tell;
 
 /// Does the job that the words after the program's name spell, writes its text to the sink, and gives the status.
 ///
-/// The job `check FILES` reads 1 to 1,000 files, and tells the first rule of 1 to 30 that they break behind the base
+/// The job `check FILES` reads 1 to 1,000 files, and tells the first rule of 1 to 54 that they break behind the base
 /// library, or that they break none. The job `run1 FILE STEPS` reads one file, and runs its entry method for at most
 /// so many steps, where that is an expression of constants. The statuses are 0 done, 1 the words are no job, 2 a file
 /// breaks a rule or hasn't the form, 6 a file couldn't be read, 7 the sink failed, and 8 no memory.
