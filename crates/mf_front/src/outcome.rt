@@ -18,9 +18,14 @@ pub enum Outcome {
     /// The words are no job.
     Usage,
     /// A file breaks a rule.
-    Refused { fault: Fault, file: Text },
+    Refused {
+        fault: Fault,
+        file: Text,
+    },
     /// A file couldn't be read.
-    ReadFault { file: Text },
+    ReadFault {
+        file: Text,
+    },
     /// The host has no memory left.
     NoMemory,
     /// So many files, behind the base library, with so many rows of types and of methods, break none of the rules 1 to 54.
@@ -30,5 +35,8 @@ pub enum Outcome {
         methods: u64,
     },
     /// A run ended, with this status and this finished text.
-    Ran { status: u8, text: Items<u8> },
+    Ran {
+        status: u8,
+        text: Items<u8>,
+    },
 }

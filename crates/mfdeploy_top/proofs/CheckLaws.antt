@@ -52,9 +52,9 @@ pub opened_behind : (bytes rest : List (List ℕ)) (files : List FilePart) → b
 unfolding base_bytes
 opened_behind bytes rest files behind opens =
     two_joined (opened_from 2 rest) files
-      (ap (λ f. joined 0 f (joined 1 (Ok native_file) (opened_from 2 rest))) (sym (built_is_read _ mscorlib_askable).0)
-      ∙ (ap (λ f. joined 0 (file_of (built (library_of MSCORLIB_NAME.now mscorlib_items))) (joined 1 f (opened_from 2 rest))) (sym (built_is_read _ native_askable).0)
-      ∙ (sym (ap files_opened behind) ∙ opens)))
+    (ap (λ f. joined 0 f (joined 1 (Ok native_file) (opened_from 2 rest))) (sym (built_is_read _ mscorlib_askable).0)
+    ∙ (ap (λ f. joined 0 (file_of (built (library_of MSCORLIB_NAME.now mscorlib_items))) (joined 1 f (opened_from 2 rest))) (sym (built_is_read _ native_askable).0)
+    ∙ (sym (ap files_opened behind) ∙ opens)))
 
 -- the verdict on them is exact
 pub told_exactly : (files : List (List ℕ)) (all : List FilePart) (found : Verdict) (outcome : Outcome) → IsBased all → (names_known all ≡ true → arrays_abstract (ecma_sources all).classes ≡ true → seen found ≡ verdict all) → (outcome ≡ judged_of files all (seen found)) ⊎ (outcome ≡ NoMemory) → (outcome ≡ judged_of files all (verdict all)) ⊎ (outcome ≡ NoMemory)
