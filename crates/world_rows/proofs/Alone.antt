@@ -20,7 +20,7 @@ use Rattle.world_rows.specs.Rows.{type_row, type_ref, assembly_ref, alone}
 use Rattle.world_rows.specs.World.{size_of, assembly_with, rows_alone, assemblies_of}
 
 -- tests that can't tell two lists of rows apart
-same_position : {A B : Type 0} (test : B → Bool) (make make' : ℕ → A → B) → ((n : ℕ) (x : A) → test (make n x) ≡ test (make' n x)) → (n : ℕ) (xs : List A) → position test (numbered make n xs) ≡ position test (numbered make' n xs)
+pub same_position : {A B : Type 0} (test : B → Bool) (make make' : ℕ → A → B) → ((n : ℕ) (x : A) → test (make n x) ≡ test (make' n x)) → (n : ℕ) (xs : List A) → position test (numbered make n xs) ≡ position test (numbered make' n xs)
 same_position test make make' same n [] = refl
 same_position test make make' same n (x ∷ xs) =
     position_step test (make n x) (numbered make (suc n) xs)
@@ -28,7 +28,7 @@ same_position test make make' same n (x ∷ xs) =
     ∙ ap (λ o. cond (test (make' n x)) (Some 0) (option_map suc o)) (same_position test make make' same (suc n) xs)
     ∙ sym (position_step test (make' n x) (numbered make' (suc n) xs))
 
-same_number : (test : Assembly → Bool) (make : ℕ → FilePart → Assembly) (make' : FilePart → Assembly) → ((n : ℕ) (x : FilePart) → test (make n x) ≡ test (make' x)) → (n : ℕ) (xs : List FilePart) → first_number test (numbered make n xs) ≡ first_number test (map make' xs)
+pub same_number : (test : Assembly → Bool) (make : ℕ → FilePart → Assembly) (make' : FilePart → Assembly) → ((n : ℕ) (x : FilePart) → test (make n x) ≡ test (make' x)) → (n : ℕ) (xs : List FilePart) → first_number test (numbered make n xs) ≡ first_number test (map make' xs)
 same_number test make make' same n [] = refl
 same_number test make make' same n (x ∷ xs) =
     ap (λ b. if b then Some 0 else option_map suc (first_number test (numbered make (suc n) xs))) (same n x)

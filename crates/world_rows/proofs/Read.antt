@@ -1,16 +1,16 @@
 -- The classes of a world have what reading gives: members belong to one class, and kinds are told by names and superclasses.
-use Rattle.std.proofs.Common.{◌≡◌, ◌⊎◌, inl, inr, ⊎_elim, ℕ, zero, suc, ◌+◌, ◌-◌, ◌<◌, ◌≤◌, Bool, true, false, List, [], ◌∷◌, map, length, Option, Some, None, refl, sym, ap, ◌∙◌, subst, arith, cond}
-use Rattle.std.specs.Prelude.{codes, ◌&&◌, ◌||◌, ◌==◌, not, max, nat_le, if◌then◌else◌, slice_get, slice_index, slice_index_or, is_some, unwrap_or}
-use Rattle.std.specs.List.{find, list_all, enumerate_from}
+use Rattle.std.proofs.Common.{◌≡◌, ℕ, zero, suc, ◌+◌, ◌-◌, ◌<◌, ◌≤◌, Bool, true, false, List, [], ◌∷◌, Option, Some, None, refl, sym, ap, ◌∙◌, subst, arith}
+use Rattle.std.specs.Prelude.{codes, ◌&&◌, ◌||◌, not, max, nat_le, if◌then◌else◌, slice_get, slice_index, unwrap_or}
+use Rattle.std.specs.List.{list_all, enumerate_from}
 use Rattle.std.specs.Option.{option_map, option_map_or}
-use Rattle.std.proofs.lemmas.Bool.{and_parts, both_ways, eqb-true, eq-eqb, leb-true}
+use Rattle.std.proofs.lemmas.Bool.{and_parts, both_ways, leb-true}
 use Rattle.std.proofs.lemmas.Option.{slice_get-map, get_or_from_slice_get}
 use Rattle.plain_types.specs.declared.elem.Elem.{Elem}
 use Rattle.file_tables.specs.declared.schema.Column.TheVariants.{ListOf}
 use Rattle.file_tables.specs.Schema.{columns_of}
-use Rattle.file_tables.specs.Metadata.{MetadataPart, rows_of, row_count, row_of, column_of, is_column, is_row}
+use Rattle.file_tables.specs.Metadata.{MetadataPart, rows_of, row_count, column_of, is_column, is_row}
 use Rattle.file_tables.specs.File.{FilePart}
-use Rattle.machine.specs.Data.{Id, id_eq}
+use Rattle.machine.specs.Data.{Id}
 use Rattle.machine.specs.Throw.{on_some}
 use Rattle.machine.specs.Texts.{same_text}
 use Rattle.classes.specs.Classes.{TypeKind, Reference, Builtin, Enumeration, OtherValue, Class, Classes}
@@ -18,17 +18,18 @@ use Rattle.classes.specs.Queries as queries
 use Rattle.classes.specs.Queries.{basic_name, elements, some_eq}
 use Rattle.classes.specs.Reading.{IsRead}
 use Rattle.assemblies.specs.Rows.{TypeToken, TypeRow, Assembly}
-use Rattle.assemblies.specs.Binding.{id_at, numbered, resolve, class_with, class_at, classes_of}
+use Rattle.assemblies.specs.Binding.{id_at, numbered, resolve, class_with}
 use Rattle.assemblies.specs.Ranges.{MethodsRise}
 use Rattle.assemblies.proofs.Numbered.{get_numbered}
 use Rattle.assemblies.proofs.Back.{get_within, get_there}
 use Rattle.assemblies.proofs.Belong.{some_map, owner, entry}
 use Rattle.world_rows.specs.Tokens.{type_defs, methods}
 use Rattle.world_rows.specs.Rows.{list_first, list_end, list_count, type_row, alone}
-use Rattle.world_rows.specs.Kinds.{system_type, is_class_of, element_of, type_at, superclass_of, extends, is_enum, is_value, enum_element, number_of, derived_kind, kind_by, kind_of}
-use Rattle.world_rows.specs.World.{type_count, reference_count, size_of, assembly_with, rows_alone, assemblies_of, ecma_sources}
-use Rattle.world_rows.specs.Read.{TypesStand, KnowsBase}
+use Rattle.world_rows.specs.Kinds.{library_type, is_class_of, element_of, superclass_of, extends, is_enum, is_value, enum_element, number_of, derived_kind, kind_by, kind_of}
+use Rattle.world_rows.specs.World.{type_count, size_of, assembly_with, rows_alone, assemblies_of, ecma_sources}
+use Rattle.world_rows.specs.Read.{TypesStand}
 use Rattle.world_rows.proofs.Alone.{resolve_alone}
+use Rattle.world_rows.proofs.Library.{id_here, some_same, found_at, library_found, basic_found, element_is}
 
 -- ---- lists of methods rise
 
@@ -93,29 +94,8 @@ module _ (m : MetadataPart) (kept : (row : ℕ) → row ≤ row_count m type_def
 
 -- ---- what names give
 
-id_here : (c : Id) → id_eq c c ≡ true
-id_here c = ap (λ b. b && (c.row == c.row)) (eq-eqb c.file c.file refl) ∙ eq-eqb c.row c.row refl
-
-id_same : (a b : Id) → id_eq a b ≡ true → a ≡ b
-id_same a b e =
-    let both = and_parts (a.file == b.file) (a.row == b.row) e in
-    ap (λ n. id_at n a.row) (eqb-true a.file b.file both.0) ∙ ap (id_at b.file) (eqb-true a.row b.row both.1)
-
-some_same : (a b : Option Id) → some_eq a b ≡ true → a ≡ b
-some_same None b e = absurd (cc e)
-some_same (Some a) None e = absurd (cc e)
-some_same (Some a) (Some b) e = ap Some (id_same a b e)
-
 same_some : (a : Option Id) (b : Id) → a ≡ Some b → some_eq a (Some b) ≡ true
 same_some a b e = subst (λ z. some_eq z (Some b) ≡ true) (sym e) (id_here b)
-
-found_at : {A : Type 0} (test : A → Bool) (es : List A) (e : A) → find test es ≡ Some e → test e ≡ true
-found_at test [] e h = absurd (cc h)
-found_at test (x ∷ xs) e h = by (test x) refl (found_at test xs e) h
-  where
-    by : (b : Bool) → test x ≡ b → (find test xs ≡ Some e → test e ≡ true) → cond b (Some x) (find test xs) ≡ Some e → test e ≡ true
-    by true t rest g = let same : x ≡ e = cc g in subst (λ z. test z ≡ true) same t
-    by false t rest g = rest g
 
 module _ (files : List FilePart) where
   abbrev ps : List Assembly
@@ -208,8 +188,8 @@ module _ (files : List FilePart) where
 
   pub data Told (c : Id) : TypeKind → Type 0 where
     ByName : (e : Elem) → element_of ps c ≡ Some e → Told c (Builtin e)
-    ByEnum : (e : Elem) → superclass_of size ps c ≡ system_type ps (codes "Enum") → Told c (Enumeration e)
-    ByValue : superclass_of size ps c ≡ system_type ps (codes "ValueType") → Told c OtherValue
+    ByEnum : (e : Elem) → superclass_of size ps c ≡ library_type ps (codes "Enum") → Told c (Enumeration e)
+    ByValue : superclass_of size ps c ≡ library_type ps (codes "ValueType") → Told c OtherValue
     ByClass : is_enum size ps c ≡ false → Told c Reference
 
   told : (c : Id) → Told c (kind_of size ps c)
@@ -218,7 +198,7 @@ module _ (files : List FilePart) where
     where
       by_value : (b : Bool) → is_enum size ps c ≡ false → is_value size ps c ≡ b → Told c (if b then OtherValue else Reference)
       by_value false none e = ByClass none
-      by_value true none e = ByValue (some_same _ _ (and_parts (extends size ps c (codes "ValueType")) _ (sym (ap (λ b. b || (extends size ps c (codes "ValueType") && not (some_eq (Some c) (system_type ps (codes "Enum"))))) none) ∙ e)).0)
+      by_value true none e = ByValue (some_same _ _ (and_parts (extends size ps c (codes "ValueType")) _ (sym (ap (λ b. b || (extends size ps c (codes "ValueType") && not (some_eq (Some c) (library_type ps (codes "Enum"))))) none) ∙ e)).0)
 
       by_enum : (b : Bool) → is_enum size ps c ≡ b → Told c (if b then Enumeration (enum_element (number_of ps c)) else if is_value size ps c then OtherValue else Reference)
       by_enum true e = ByEnum (enum_element (number_of ps c)) (some_same _ _ e)
@@ -273,38 +253,37 @@ module _ (files : List FilePart) where
       by None here h = absurd (cc h)
       by (Some x) here h = let same : whole f x ≡ p = cc h in subst MethodsRise same (file_rises f x (stand f x here))
 
-  module _ (base : KnowsBase files) where
-    builtin : (c : Id) (e : Elem) → Told c (Builtin e) → queries.basic cs e ≡ Some c
-    builtin c _ (ByName e h) = base.basics e ∙ sym (some_same (Some c) (on_some (basic_name e) (system_type ps)) (found_at (is_class_of ps c) elements e h))
+  builtin : (c : Id) (e : Elem) → Told c (Builtin e) → queries.basic cs e ≡ Some c
+  builtin c _ (ByName e h) = basic_found files e ∙ sym (some_same (Some c) (on_some (basic_name e) (library_type ps)) (found_at (is_class_of ps c) elements e h))
 
-    enumeration : (c : Id) (e : Elem) → Told c (Enumeration e) → superclass_of size ps c ≡ queries.library_class cs (codes "Enum")
-    enumeration c _ (ByEnum e h) = h ∙ sym base.enums
+  enumeration : (c : Id) (e : Elem) → Told c (Enumeration e) → superclass_of size ps c ≡ queries.library_class cs (codes "Enum")
+  enumeration c _ (ByEnum e h) = h ∙ sym (library_found files (codes "Enum"))
 
-    other : (c : Id) → Told c OtherValue → superclass_of size ps c ≡ queries.library_class cs (codes "ValueType")
-    other c (ByValue h) = h ∙ sym base.values
+  other : (c : Id) → Told c OtherValue → superclass_of size ps c ≡ queries.library_class cs (codes "ValueType")
+  other c (ByValue h) = h ∙ sym (library_found files (codes "ValueType"))
 
-    reference : (c d : Id) → Told c Reference → superclass_of size ps c ≡ Some d → queries.library_class cs (codes "Enum") ≡ Some d → ⊥
-    reference c d (ByClass h) up enums =
-        both_ways (is_enum size ps c) h (subst (λ z. some_eq z (system_type ps (codes "Enum")) ≡ true) (sym up) (subst (λ z. some_eq (Some d) z ≡ true) (sym (sym base.enums ∙ enums)) (id_here d)))
+  reference : (c d : Id) → Told c Reference → superclass_of size ps c ≡ Some d → queries.library_class cs (codes "Enum") ≡ Some d → ⊥
+  reference c d (ByClass h) up enums =
+      both_ways (is_enum size ps c) h (subst (λ z. some_eq z (library_type ps (codes "Enum")) ≡ true) (sym up) (subst (λ z. some_eq (Some d) z ≡ true) (sym (sym (library_found files (codes "Enum")) ∙ enums)) (id_here d)))
 
-    named : (c : Id) (e : Elem) → queries.basic cs e ≡ Some c → queries.kind_of cs c ≡ Some (Builtin e)
-    unfolding kind_of
-    named c e h =
-        let z = basic_there e c h in
-        ap (option_map (λ (x : Class). x.kind)) z.1 ∙ ap Some (kind_is c z.0 z.1 ∙ kind_from c e (base.elements e c h))
-      where
-        kind_from : (c : Id) (e : Elem) → element_of ps c ≡ Some e → kind_of size ps c ≡ Builtin e
-        kind_from c e h = ap (λ o. kind_by o (derived_kind size ps c)) h
+  named : (c : Id) (e : Elem) → queries.basic cs e ≡ Some c → queries.kind_of cs c ≡ Some (Builtin e)
+  unfolding kind_of
+  named c e h =
+      let z = basic_there e c h in
+      ap (option_map (λ (x : Class). x.kind)) z.1 ∙ ap Some (kind_is c z.0 z.1 ∙ kind_from c e (element_is ps e c (sym (basic_found files e) ∙ h)))
+    where
+      kind_from : (c : Id) (e : Elem) → element_of ps c ≡ Some e → kind_of size ps c ≡ Builtin e
+      kind_from c e h = ap (λ o. kind_by o (derived_kind size ps c)) h
 
-    pub world_is_read : TypesStand files → IsRead (type_count (rows_alone files)) cs
-    world_is_read stand =
-        record {
-          room = omega arith;
-          owner = owner size (assemblies_of files) (rise stand);
-          entry = entry size (assemblies_of files) (rise stand);
-          builtin = λ c e h. builtin c e (told_there c (Builtin e) h);
-          basic_kind = named;
-          enumeration = λ c e h. let z = class_there c (Enumeration e) h in superclass_there c z.0 z.1 ∙ enumeration c e (told_there c (Enumeration e) h);
-          other = λ c h. let z = class_there c OtherValue h in superclass_there c z.0 z.1 ∙ other c (told_there c OtherValue h);
-          reference = λ c d h up enums. let z = class_there c Reference h in reference c d (told_there c Reference h) (sym (superclass_there c z.0 z.1) ∙ up) enums;
-        }
+  pub world_is_read : TypesStand files → IsRead (type_count (rows_alone files)) cs
+  world_is_read stand =
+      record {
+        room = omega arith;
+        owner = owner size (assemblies_of files) (rise stand);
+        entry = entry size (assemblies_of files) (rise stand);
+        builtin = λ c e h. builtin c e (told_there c (Builtin e) h);
+        basic_kind = named;
+        enumeration = λ c e h. let z = class_there c (Enumeration e) h in superclass_there c z.0 z.1 ∙ enumeration c e (told_there c (Enumeration e) h);
+        other = λ c h. let z = class_there c OtherValue h in superclass_there c z.0 z.1 ∙ other c (told_there c OtherValue h);
+        reference = λ c d h up enums. let z = class_there c Reference h in reference c d (told_there c Reference h) (sym (superclass_there c z.0 z.1) ∙ up) enums;
+      }

@@ -1,7 +1,7 @@
 -- What the types of a world are as types of places (II.13, II.14.3), and the bytes of data fields.
 -- Names are resolved among the rows of each file alone, which don't depend on what is told here.
-use Rattle.std.specs.Prelude.{codes, ℕ, suc, ◌==◌, Bool, true, false, not, ◌&&◌, ◌||◌, if◌then◌else◌, List, [], ◌∷◌, length, slice_get, slice_index, Option, Some, None, unwrap_or}
-use Rattle.std.specs.List.{find, filter}
+use Rattle.std.specs.Prelude.{codes, ℕ, suc, ◌==◌, Bool, not, ◌&&◌, ◌||◌, if◌then◌else◌, List, [], ◌∷◌, length, slice_get, slice_index, Option, Some, None, unwrap_or}
+use Rattle.std.specs.List.{find, filter, position}
 use Rattle.std.specs.Option.{option_map}
 use Rattle.plain_types.specs.declared.elem.Elem.{Elem}
 use Rattle.plain_types.specs.declared.elem.Elem.TheVariants as elem
@@ -9,23 +9,36 @@ use Rattle.file_tables.specs.Pe.{at_rva}
 use Rattle.file_tables.specs.Metadata.{rows_of}
 use Rattle.file_tables.specs.File.{FilePart}
 use Rattle.machine.specs.Data.{Id}
+use Rattle.machine.specs.Texts.{same_text}
 use Rattle.machine.specs.Throw.{on_some}
 use Rattle.classes.specs.Classes.{TypeKind, Reference, Builtin, Enumeration, OtherValue}
 use Rattle.classes.specs.Queries.{basic_name, elements, some_eq, is_instance_kind, is_integer}
 use Rattle.assemblies.specs.Rows.{RawType, RawSpelt, RawClass, RawValue, RawArray, TypeRow, FieldRow, Assembly, Nowhere}
-use Rattle.assemblies.specs.Binding.{type_in, resolve, range}
+use Rattle.assemblies.specs.Binding.{first_number, id_at, type_in, resolve, range}
 use Rattle.world_rows.specs.Tokens.{class_layouts, field_rvas}
 use Rattle.world_rows.specs.Rows.{row_with}
 
--- the first type of the base library with the namespace and the name
-abbrev pub base_type : List Assembly → List ℕ → List ℕ → Option Id
-base_type ps namespace name = type_in ps 0 None (record { scope = Nowhere; namespace = namespace; name = name })
+-- ---- types of the base library
 
+abbrev pub is_system : List ℕ → TypeRow → Bool
+is_system name t = same_text t.namespace (codes "System") && same_text t.name name
+
+-- the first type of the namespace System with the name, nested or not, in the first assembly of the base library's name: the class
+-- that the machine finds by the name. Told by the list's cases, so that it computes where only the first assemblies are known
+abbrev pub library_type : List Assembly → List ℕ → Option Id
+library_type ps name =
+    on_some (first_number (λ (p : Assembly). same_text p.name (codes "mscorlib")) ps) (λ f.
+    on_some (slice_get ps f) (λ p. option_map (id_at f) (position (is_system name) p.types)))
+
+-- the first file's type of the namespace System with the name, in no other type. The natives and the types that the base library
+-- must have are told by the numbers of its files, and so is this
 abbrev pub system_type : List Assembly → List ℕ → Option Id
-system_type ps name = base_type ps (codes "System") name
+system_type ps name = type_in ps 0 None (record { scope = Nowhere; namespace = codes "System"; name = name })
+
+-- ---- elements
 
 abbrev pub is_class_of : List Assembly → Id → Elem → Bool
-is_class_of ps c e = some_eq (Some c) (on_some (basic_name e) (system_type ps))
+is_class_of ps c e = some_eq (Some c) (on_some (basic_name e) (library_type ps))
 
 abbrev pub element_of : List Assembly → Id → Option Elem
 element_of ps c = find (is_class_of ps c) elements
@@ -56,14 +69,14 @@ number_of ps c = number_in (filter (λ f. is_instance_kind f.kind) (fields_in ps
 -- ---- kinds
 
 abbrev pub extends : ℕ → List Assembly → Id → List ℕ → Bool
-extends k ps c name = some_eq (superclass_of k ps c) (system_type ps name)
+extends k ps c name = some_eq (superclass_of k ps c) (library_type ps name)
 
 abbrev pub is_enum : ℕ → List Assembly → Id → Bool
 is_enum k ps c = extends k ps c (codes "Enum")
 
 -- Enum itself is a class
 abbrev pub is_value : ℕ → List Assembly → Id → Bool
-is_value k ps c = is_enum k ps c || (extends k ps c (codes "ValueType") && not (some_eq (Some c) (system_type ps (codes "Enum"))))
+is_value k ps c = is_enum k ps c || (extends k ps c (codes "ValueType") && not (some_eq (Some c) (library_type ps (codes "Enum"))))
 
 -- an enum without one integer as its instance field is refused, and is void till then
 abbrev pub enum_element : Option Elem → Elem

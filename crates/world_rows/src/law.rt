@@ -3,12 +3,14 @@ ghost use Rattle.std.specs.Prelude.{◌≡◌, ℕ, ◌≤◌, true, List, Optio
 ghost use Rattle.file_tables.specs.declared.schema.TheConstants.{LOOKED_AT};
 ghost use Rattle.file_tables.specs.Metadata.{row_count, is_row};
 ghost use Rattle.file_tables.specs.File.{FilePart, file_of};
+ghost use Rattle.classes.specs.Queries.{library_class};
 ghost use Rattle.classes.specs.Reading.{IsRead};
 ghost use Rattle.assemblies.specs.Rows.{TypeToken};
 ghost use Rattle.assemblies.specs.Binding.{resolve, expanded, expanded_signature};
 ghost use Rattle.world_rows.specs.Signatures.{faulty_type, faulty_signature};
 ghost use Rattle.world_rows.specs.World.{type_count, rows_alone, assemblies_of, ecma_sources};
-ghost use Rattle.world_rows.specs.Read.{TypesStand, KnowsBase};
+ghost use Rattle.world_rows.specs.Kinds.{library_type};
+ghost use Rattle.world_rows.specs.Read.{TypesStand};
 
 /// A token names the same class among the assemblies of a world as among the rows of each file alone, by which kinds, natives and the
 /// bytes of data fields are told.
@@ -22,10 +24,15 @@ pub fn faulty_signatures_equal_none()
     ensures of_method { (files : List FilePart) (scopes file : ℕ) (x : FilePart) → slice_get files file ≡ Some x → expanded_signature scopes (assemblies_of files) file (faulty_signature x.metadata) ≡ None }
 {}
 
-/// The classes of a world have what reading gives, where its rows of types keep rule 12 and its first file has the library's classes:
-/// members belong to one class, and kinds are told by names and superclasses.
+/// The class that a name of the base library finds in a world is the one that the rows of each file alone tell, by which kinds are told.
+pub fn library_types_are_found()
+    ensures { (files : List FilePart) (name : List ℕ) → library_class (ecma_sources files).classes name ≡ library_type (rows_alone files) name }
+{}
+
+/// The classes of a world have what reading gives, where its rows of types keep rule 12: members belong to one class, and kinds are told
+/// by names and superclasses.
 pub fn world_is_read()
-    ensures { (files : List FilePart) → KnowsBase files → TypesStand files → IsRead (type_count (rows_alone files)) (ecma_sources files).classes }
+    ensures { (files : List FilePart) → TypesStand files → IsRead (type_count (rows_alone files)) (ecma_sources files).classes }
 {}
 
 /// The rows of a file that opens keep rule 12, in each table that the rule looks at; so those of the types of a world's files do.
