@@ -8,23 +8,21 @@ use Rattle.base_tables.specs.declared.shape.Entry.TheVariants.{Method}
 use Rattle.base_tables.specs.declared.shape.Work.{Work}
 use Rattle.base_tables.specs.declared.shape.Work.TheVariants as work
 use Rattle.file_tables.specs.File.{FilePart}
-use Rattle.plain_types.specs.declared.elem.Elem.{Elem}
 use Rattle.machine.specs.Data.{Id, elem_number}
 use Rattle.machine.specs.Texts.{same_text}
 use Rattle.machine.specs.Throw.{on_some}
-use Rattle.machine.specs.Program.{NativeName, ObjectToString, EnumEquals, EnumToString, ArrayLength, ArrayCopy, StringLength, StringChars, StringConcat, StringSubstring, StringEquals, StringCompare, StringFromChars, StringFromChar, NumberSigned, NumberUnsigned, InitializeArray, DebugPrint, Body, Code, Native, Missing, native_number}
+use Rattle.machine.specs.Program.{Body, Code, Native, Missing, native_number}
 use Rattle.classes.specs.Classes.{TypeKind, Reference, Builtin, Enumeration, OtherValue, Class, Classes}
 use Rattle.assemblies.specs.Rows.{TypeRow, MethodRow, FieldRow, Assembly}
 use Rattle.assemblies.specs.Binding.{id_at, numbered, expanded, expanded_signature, sources_of}
-use Rattle.world_rows.specs.Kinds.{superclass_of, type_at, system_type, element_of}
-use Rattle.classes.specs.Queries.{basic_name, known, knowns, elements, basic, array, library_class, some_eq}
+use Rattle.world_rows.specs.Kinds.{superclass_of, type_at}
+use Rattle.classes.specs.Queries.{basic_name, known, knowns, elements, basic, array}
 use Rattle.classes.specs.Code.{MethodCode, Sources}
 use Rattle.classes.specs.Listed.{line_of}
 use Rattle.world_rows.specs.World.{size_of, rows_alone, assemblies_of, assembly_with}
 use Rattle.file_tables.specs.Metadata.{MetadataPart, row_count, is_row}
 use Rattle.world_rows.specs.Tokens.{type_defs}
 use Rattle.world_rows.specs.Rows.{alone}
-use Rattle.class_rules.specs.Rules.{holds_some}
 use Rattle.base_rows.specs.Base.{library_file, native_file, is_type_entry}
 
 abbrev pub base : List FilePart → List FilePart
@@ -161,18 +159,6 @@ types_in a b = numbered (λ n (t : TypeRow). id_at 0 n) 0 (alone a).types ++ num
 
 abbrev pub base_types : List Id
 base_types = types_in library_file native_file
-
--- the classes that are known by name are types of the first file, each of one element alone
-abbrev pub is_element : List Assembly → Classes → Elem → Bool
-is_element ps cs e =
-    some_eq (basic cs e) (on_some (basic_name e) (system_type ps))
-    && holds_some (basic cs e) (λ c. holds_some (element_of ps c) (λ g. elem_number g == elem_number e))
-
-abbrev pub is_first : List Assembly → Classes → List ℕ → Bool
-is_first ps cs name = some_eq (library_class cs name) (system_type ps name)
-
-abbrev pub named_well : List Assembly → Classes → Bool
-named_well ps cs = list_all (is_element ps cs) elements && (is_first ps cs (codes "Enum") && is_first ps cs (codes "ValueType"))
 
 -- rule 12 of the rows of types up to one
 abbrev pub stands_to : MetadataPart → ℕ → Bool

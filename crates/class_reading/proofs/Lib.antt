@@ -1,3 +1,5 @@
+pub mod FirstLaws
+pub mod LibraryLaws
 pub mod BaseLaws
 pub mod NumberLaws
 pub mod ListLaws

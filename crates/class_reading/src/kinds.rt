@@ -8,14 +8,15 @@ ghost use Rattle.world_rows.specs.World.{rows_alone, size_of};
 ghost use Rattle.member_keys.specs.Seen.{class_seen};
 ghost use Rattle.class_table.specs.Seen.{kind_seen};
 
-use crate::base::{Basic, find_basics, system_type};
+use crate::base::{Basic, find_basics, library_type};
+use crate::library::find_library;
 use class_table::TypeKind;
 use member_keys::ClassId;
 use plain_types::elem::Elem;
 use plain_types::fault::NoMemory;
 use std::alloc::Global;
 use std::marker::Model;
-use type_names::{TypeNames, type_places};
+use type_names::TypeNames;
 
 /// By what the kinds of a world's types are told. Contracts see the list of the files' parts.
 #[derive(Drop)]
@@ -54,14 +55,13 @@ impl<'w, 'a> Kinds<'w, 'a> {
     pub fn new(alloc: Global, names: &'w TypeNames<'a>) -> Result<Kinds<'w, 'a>, NoMemory>
         ensures { IfOk result (λ kinds. kinds ≡ names.now) }
     {
-        let _base = names.files();
-        let places = type_places(alloc, names.tables(0))?;
-        let basics = find_basics(alloc, names, &places)?;
+        let library = find_library(names);
+        let basics = find_basics(alloc, names, library)?;
         Ok(Kinds {
             names,
             basics,
-            enumeration: system_type(names, &places, "Enum"),
-            value_type: system_type(names, &places, "ValueType"),
+            enumeration: library_type(names, library, "Enum"),
+            value_type: library_type(names, library, "ValueType"),
         })
     }
 

@@ -6,7 +6,9 @@ mod fields;
 mod files;
 mod interfaces;
 mod kinds;
+mod library;
 mod lists;
 mod types;
 
 pub use files::read_classes;
+pub use library::find_library;

@@ -29,7 +29,7 @@ use Rattle.world_rows.proofs.Alone.{same_position, same_number}
 
 -- ---- equal names, numbers and lists
 
-text_same : (a b : List ℕ) → same_text a b ≡ true → a ≡ b
+pub text_same : (a b : List ℕ) → same_text a b ≡ true → a ≡ b
 text_same [] [] e = refl
 text_same [] (y ∷ ys) e = absurd (cc e)
 text_same (x ∷ xs) [] e = absurd (cc e)
