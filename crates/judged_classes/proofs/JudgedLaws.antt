@@ -9,8 +9,6 @@ use Rattle.class_rules.specs.Rules.{holds_some, Keeps}
 use Rattle.class_rules.specs.Base.{where_some}
 use Rattle.world_rows.specs.World.{type_count, rows_alone, ecma_sources}
 use Rattle.world_rows.proofs.Read.{world_is_read}
-use Rattle.base_rows.specs.Facts.{base}
-use Rattle.base_rows.proofs.BaseLaws.{base_is_known}
 use Rattle.verdict_rules.specs.Order.{phase_fault}
 use Rattle.verdict_rules.specs.World.{world_of}
 use Rattle.verdict_rules.specs.Types.{type_rules}
@@ -20,8 +18,7 @@ use Rattle.verdict_laws.proofs.Keeps.{keeps}
 use Rattle.cil_types.specs.Spelt.{AreSpelt}
 use Rattle.cil_types.proofs.SpellLaws.{kinds_spelt}
 use Rattle.ecma_effects.specs.Told.{Tabled}
-use Rattle.judged_classes.specs.Judged.{IsJudged, names_known}
-use Rattle.judged_classes.proofs.Known.{knows, named_well}
+use Rattle.judged_classes.specs.Judged.{IsJudged}
 use Rattle.judged_classes.proofs.Fields.{fields_found}
 use Rattle.judged_classes.proofs.Natives.{constructors}
 
@@ -41,7 +38,7 @@ module _ (files : List FilePart) (none : profile files ≡ None) where
 -- ---- the laws
 
 pub read : (files : List FilePart) → IsJudged files → IsRead (type_count (rows_alone files)) (ecma_sources files).classes
-read files j = world_is_read files (knows files j.names) j.types
+read files j = world_is_read files j.types
 
 pub kept : (files : List FilePart) → IsJudged files → Keeps (type_count (rows_alone files)) (ecma_sources files).classes
 kept files j = keeps files (in_types files j.profile) (in_members files j.profile) j.slots (read files j)
@@ -60,6 +57,3 @@ module _ (files : List FilePart) (j : IsJudged files) where
 
   pub tabled : Tabled cs
   tabled = record { entry = fields_found files j.types; arrays_abstract = abstract_at; constructors = λ c i m low e h. constructors files c i m e h }
-
-pub base_named : (xs : List FilePart) → names_known (base xs) ≡ true
-base_named xs = named_well (base xs) (base_is_known xs)

@@ -1,4 +1,3 @@
-mod Known
 mod Fields
 mod Natives
 pub mod BaseArrays

@@ -28,7 +28,7 @@ use Rattle.world_rows.specs.Natives as natives
 use Rattle.world_rows.specs.Natives.{NativeRow, native_at, native_body, body_of_native}
 use Rattle.world_rows.specs.World.{size_of, rows_alone, ecma_sources}
 use Rattle.verdict_laws.proofs.Rows.{native, MethodAt, method_at, from_zero}
-use Rattle.judged_classes.proofs.Known.{text_same}
+use Rattle.world_rows.proofs.Library.{text_same}
 
 -- the names of natives, and of constructors
 no_constructor : NativeRow → Bool
