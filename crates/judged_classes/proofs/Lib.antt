@@ -1,5 +1,4 @@
 mod Known
 mod Fields
 mod Natives
-pub mod BaseArrays
 pub mod JudgedLaws

@@ -3,9 +3,7 @@ use Rattle.std.specs.Prelude.{◌≡◌, codes, ℕ, Bool, true, false, ◌&&◌
 use Rattle.std.specs.List.{list_all}
 use Rattle.file_tables.specs.File.{FilePart}
 use Rattle.machine.specs.Data.{Id, id_eq}
-use Rattle.classes.specs.Classes.{Classes}
-use Rattle.classes.specs.Queries.{basic_name, elements, library_class, array}
-use Rattle.class_rules.specs.Rules.{holds_some}
+use Rattle.classes.specs.Queries.{basic_name, elements, library_class}
 use Rattle.class_rules.specs.Base.{where_some}
 use Rattle.world_rows.specs.Kinds.{system_type}
 use Rattle.world_rows.specs.Read.{TypesStand}
@@ -29,14 +27,9 @@ abbrev pub names_known : List FilePart → Bool
 names_known files =
     list_all (λ e. where_some (basic_name e) (is_known files)) elements && (is_known files (codes "Enum") && is_known files (codes "ValueType"))
 
-abbrev pub arrays_abstract : Classes → Bool
-arrays_abstract cs = where_some (array cs) (λ c. holds_some (cs.class c) (λ k. k.is_abstract))
-
 pub record IsJudged (files : List FilePart) : Type 0 where
   pub types : TypesStand files
   pub profile : profile files ≡ None
   pub slots : phase_fault (slot_rules (world_of files)) files ≡ None
   -- the classes by whose names kinds are told are types of the first file
   pub names : names_known files ≡ true
-  -- System.Array is abstract
-  pub arrays : arrays_abstract (ecma_sources files).classes ≡ true

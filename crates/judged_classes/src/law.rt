@@ -8,7 +8,7 @@ ghost use Rattle.world_rows.specs.World.{type_count, rows_alone, ecma_sources};
 ghost use Rattle.base_rows.specs.Facts.{base};
 ghost use Rattle.cil_types.specs.Spelt.{AreSpelt};
 ghost use Rattle.ecma_effects.specs.Told.{Tabled};
-ghost use Rattle.judged_classes.specs.Judged.{IsJudged, names_known, arrays_abstract};
+ghost use Rattle.judged_classes.specs.Judged.{IsJudged, names_known};
 
 /// Their members belong to one class, and their kinds are told by names and superclasses.
 pub fn judged_classes_are_read()
@@ -25,13 +25,12 @@ pub fn judged_classes_are_spelt()
     ensures { (files : List FilePart) → IsJudged files → AreSpelt (ecma_sources files).classes }
 {}
 
-/// Their fields are found by their numbers, the class of arrays is abstract, and no constructor is native.
+/// Their fields are found by their numbers, and no constructor is native.
 pub fn judged_classes_are_tabled()
     ensures { (files : List FilePart) → IsJudged files → Tabled (ecma_sources files).classes }
 {}
 
-/// Over the base library kinds are told by the classes that its names find, and System.Array is abstract, whatever files follow.
+/// Over the base library kinds are told by the classes that its names find, whatever files follow.
 pub fn base_classes_are_known()
-    ensures names { (xs : List FilePart) → names_known (base xs) ≡ true }
-    ensures arrays { (xs : List FilePart) → arrays_abstract (ecma_sources (base xs)).classes ≡ true }
+    ensures { (xs : List FilePart) → names_known (base xs) ≡ true }
 {}
