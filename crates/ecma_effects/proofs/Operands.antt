@@ -1,5 +1,5 @@
 -- What an instruction's operand names, of the two kinds of rows: the same operands are taken, and the rows are alike.
-use Rattle.std.proofs.Common.{◌≡◌, Bool, true, false, ◌&&◌, not, Option, Some, None, refl, sym, ap, ◌∙◌, subst}
+use Rattle.std.proofs.Common.{◌≡◌, Bool, true, false, ◌&&◌, ◌||◌, not, Option, Some, None, refl, sym, ap, ◌∙◌, subst}
 use Rattle.std.specs.Prelude.{if◌then◌else◌, nat_eq, is_some}
 use Rattle.std.specs.Option.{option_map}
 use Rattle.plain_types.specs.declared.elem.Elem.TheVariants as elem
@@ -170,18 +170,21 @@ module _ (cs : Classes) where
       at true x h = refl
       at false x h = absurd (cc h)
 
-  made_test : (a i r s y : Bool) → (y ≡ true → a ≡ true) → (not a && (not i && (r && (not s && true)))) ≡ ((not a && not i) && (r && (not s && not y)))
-  made_test true i r s y f = refl
-  made_test false i r s false f = refl
-  made_test false i r s true f = absurd (cc (f refl))
+  made_test : (a i r s y : Bool) → (not (a || y) && (not i && (r && (not s && true)))) ≡ ((not a && not i) && (r && (not s && not y)))
+  made_test true i r s y = refl
+  made_test false i r s false = refl
+  made_test false true r s true = refl
+  made_test false false false s true = refl
+  made_test false false true true true = refl
+  made_test false false true false true = refl
 
   made_asks : (id : Id) (m : MethodOperand) (k : IsMethod cs id m) → is_made m.class m.class_flags ≡ is_made_in cs k.owner
   made_asks id m k =
-      and_same _ _ _ _ (ap not k.abstract_class)
+      and_same _ _ _ _ (ap not k.unmade)
       (and_same _ _ _ _ (ap not k.interface)
       (and_same _ _ _ _ (class_refers cs k.owner m.class k.place k.owner_fits)
       (and_same _ _ _ _ (ap not (ap is_string k.place.element ∙ k.string)) (ap (λ n. nat_eq n 0) k.place.single))))
-      ∙ (made_test k.class.is_abstract k.class.is_interface (is_reference_class cs k.owner) (some_eq (Some k.owner) (basic cs elem.String)) (some_eq (Some k.owner) (array cs)) k.arrays
+      ∙ (made_test k.class.is_abstract k.class.is_interface (is_reference_class cs k.owner) (some_eq (Some k.owner) (basic cs elem.String)) (some_eq (Some k.owner) (array cs))
       ∙ sym (ap (λ z. holds_some z (λ (c : Class). not c.is_abstract && not c.is_interface) && (is_reference_class cs k.owner && (not (some_eq (Some k.owner) (basic cs elem.String)) && not (some_eq (Some k.owner) (array cs))))) k.class_is))
 
   new_test : (c t d v : Bool) → (c ≡ true → v ≡ true) → (c && (t && (d && v))) ≡ (c && (t && d))

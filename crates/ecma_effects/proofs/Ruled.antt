@@ -12,7 +12,7 @@ use Rattle.machine.specs.Throw.{on_some}
 use Rattle.machine_typed.specs.Typing.{is_refers, is_number, is_bits, is_plain, has_body}
 use Rattle.machine_typed.proofs.Types.{id_same}
 use Rattle.classes.specs.Classes.{Classes, Class, OwnField, OwnMethod, SigType, Spelt, ClassToken, ValueToken, ArraySig, Signature, FieldKind, InstanceField, StaticField, LiteralField, DataField, TypeKind, Builtin, Enumeration, OtherValue, Reference}
-use Rattle.classes.specs.Queries.{basic, array, some_eq, is_integer, kind_of, type_by_kind, is_instance, is_instance_kind, is_static_kind, fields_of, methods_of, instance_fields, field_types, fields, field_at, flag_eq}
+use Rattle.classes.specs.Queries.{basic, some_eq, is_integer, kind_of, type_by_kind, is_instance, is_instance_kind, is_static_kind, fields_of, methods_of, instance_fields, field_types, fields, field_at, flag_eq}
 use Rattle.classes.specs.Queries.{type_of as type_in}
 use Rattle.classes.specs.Listed.{is_constructor}
 use Rattle.classes.specs.Reading.{IsRead}
@@ -298,9 +298,6 @@ module _ (n : ℕ) (cs : Classes) (r : IsRead n cs) (k : Keeps n cs) (t : Tabled
         by Missing true e w never = absurd (never refl)
         by Missing false e w never = absurd (cc e)
 
-    arrays_abstract : some_eq (Some q.owner) (array cs) ≡ true → q.class.is_abstract ≡ true
-    arrays_abstract h = t.arrays_abstract q.owner q.class (some_here (array cs) q.owner h) q.class_is
-
     pub method_known : IsMethod cs id m
     method_known =
         let ts = all_fields q.owner in
@@ -314,7 +311,7 @@ module _ (n : ℕ) (cs : Classes) (r : IsRead n cs) (k : Keeps n cs) (t : Tabled
           own_is = q.own_is;
           signed = q.signed;
           place = q.place;
-          abstract_class = q.abstract_class;
+          unmade = q.unmade;
           interface = q.interface;
           constructor = q.constructor;
           this = q.this;
@@ -328,6 +325,5 @@ module _ (n : ℕ) (cs : Classes) (r : IsRead n cs) (k : Keeps n cs) (t : Tabled
           code = has_code;
           nothing = returns_none;
           string = string_kind q.owner q.class q.class_is;
-          arrays = arrays_abstract;
           fields = ap is_some (fields_there q.owner q.class ts.0 q.class_is ts.1);
         }

@@ -1,5 +1,5 @@
 -- When what is known of an instruction (rows from 1) is what its method and the classes of the world say (rows from 0).
-use Rattle.std.specs.Prelude.{◌≡◌, ℕ, ℤ, Bool, true, false, not, List, [], map, Option, Some, None, is_some, slice_get}
+use Rattle.std.specs.Prelude.{◌≡◌, ℕ, ℤ, Bool, true, false, ◌||◌, not, List, [], map, Option, Some, None, is_some, slice_get}
 use Rattle.std.specs.List.{position}
 use Rattle.std.specs.Option.{option_map}
 use Rattle.plain_types.specs.declared.elem.Elem.{Elem}
@@ -78,6 +78,10 @@ pub record IsField (cs : Classes) (id : Id) (f : FieldOperand) : Type 0 where
   pub types_are : is_instance_kind own.kind ≡ true → fields cs owner ≡ Some types
   pub type_there : is_instance_kind own.kind ≡ true → slice_get types place ≡ Some (type_in cs signature)
 
+-- `newobj` makes no object of it: it is abstract, or the class of arrays (III.4.21)
+abbrev pub is_unmade : Option Id → Id → Class → Bool
+is_unmade arrays c k = k.is_abstract || some_eq (Some c) arrays
+
 pub record IsMethod (cs : Classes) (id : Id) (m : MethodOperand) : Type 0 where
   pub owner : Id
   pub class : Class
@@ -88,7 +92,7 @@ pub record IsMethod (cs : Classes) (id : Id) (m : MethodOperand) : Type 0 where
   pub own_is : method_at cs id ≡ Some own
   pub signed : own.signature ≡ Some signature
   pub place : IsClass cs owner m.class
-  pub abstract_class : has_bit m.class_flags 7 ≡ class.is_abstract
+  pub unmade : has_bit m.class_flags 7 ≡ is_unmade (array cs) owner class
   pub interface : has_bit m.class_flags 5 ≡ class.is_interface
   pub constructor : m.constructor ≡ is_constructor own
   pub this : m.this ≡ signature.has_this
@@ -105,9 +109,8 @@ pub record IsMethod (cs : Classes) (id : Id) (m : MethodOperand) : Type 0 where
   -- a constructor has code, and gives nothing back (29, and the base library)
   pub code : is_constructor own ≡ true → own.body ≡ Code
   pub nothing : is_constructor own ≡ true → signature.returns ≡ None
-  -- String is the class of its element alone, and the class of arrays is abstract (the base library)
+  -- String is the class of its element alone (the base library)
   pub string : is_string (elem_of (kind_of cs owner)) ≡ some_eq (Some owner) (basic cs elem.String)
-  pub arrays : some_eq (Some owner) (array cs) ≡ true → class.is_abstract ≡ true
   -- each field has a signature (27)
   pub fields : is_some (fields cs owner) ≡ true
 

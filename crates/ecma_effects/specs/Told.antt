@@ -13,7 +13,7 @@ use Rattle.verify_ops.specs.declared.facts.FieldOperand.{FieldOperand}
 use Rattle.verify_ops.specs.declared.facts.MethodOperand.{MethodOperand}
 use Rattle.verify_ops.specs.Facts.{result_of}
 use Rattle.verify_ops.specs.Facts.{kind_of as kind_by_flags}
-use Rattle.ecma_effects.specs.Known.{IsClass, without_bytes}
+use Rattle.ecma_effects.specs.Known.{IsClass, is_unmade, without_bytes}
 
 pub record TellsField (cs : Classes) (id : Id) (f : FieldOperand) : Type 0 where
   pub owner : Id
@@ -36,7 +36,7 @@ pub record TellsMethod (cs : Classes) (id : Id) (m : MethodOperand) : Type 0 whe
   pub own_is : method_at cs id ≡ Some own
   pub signed : own.signature ≡ Some signature
   pub place : IsClass cs owner m.class
-  pub abstract_class : has_bit m.class_flags 7 ≡ class.is_abstract
+  pub unmade : has_bit m.class_flags 7 ≡ is_unmade (array cs) owner class
   pub interface : has_bit m.class_flags 5 ≡ class.is_interface
   pub constructor : m.constructor ≡ is_constructor own
   pub this : m.this ≡ signature.has_this
@@ -48,6 +48,5 @@ pub record TellsMethod (cs : Classes) (id : Id) (m : MethodOperand) : Type 0 whe
 pub record Tabled (cs : Classes) : Type 0 where
   -- a row of a field belongs to one class, and is found there by its number (tables)
   pub entry : (c : Id) (i : ℕ) (g : OwnField) → slice_get (fields_of cs c) i ≡ Some g → field_at cs g.id ≡ Some g
-  -- the class of arrays is abstract, and no constructor is native (the base library)
-  pub arrays_abstract : (c : Id) (k : Class) → array cs ≡ Some c → cs.class c ≡ Some k → k.is_abstract ≡ true
+  -- no constructor is native (the base library)
   pub constructors : (c : Id) (i : ℕ) (m : OwnMethod) → is_user c ≡ false → slice_get (methods_of cs c) i ≡ Some m → is_constructor m ≡ true → is_native m.body ≡ false

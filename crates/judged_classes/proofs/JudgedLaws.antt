@@ -1,12 +1,9 @@
 -- What the classes of judged files have.
-use Rattle.std.proofs.Common.{◌≡◌, true, Some, None, refl, sym, ap, ◌∙◌, List}
+use Rattle.std.proofs.Common.{◌≡◌, true, None, refl, List}
 use Rattle.file_tables.specs.File.{FilePart}
-use Rattle.machine.specs.Data.{Id}
-use Rattle.classes.specs.Classes.{Class, Classes}
-use Rattle.classes.specs.Queries.{array}
+use Rattle.classes.specs.Classes.{Classes}
 use Rattle.classes.specs.Reading.{IsRead}
-use Rattle.class_rules.specs.Rules.{holds_some, Keeps}
-use Rattle.class_rules.specs.Base.{where_some}
+use Rattle.class_rules.specs.Rules.{Keeps}
 use Rattle.world_rows.specs.World.{type_count, rows_alone, ecma_sources}
 use Rattle.world_rows.proofs.Read.{world_is_read}
 use Rattle.verdict_rules.specs.Order.{phase_fault}
@@ -50,10 +47,5 @@ module _ (files : List FilePart) (j : IsJudged files) where
   abbrev cs : Classes
   cs = (ecma_sources files).classes
 
-  abstract_at : (c : Id) (k : Class) → array cs ≡ Some c → cs.class c ≡ Some k → k.is_abstract ≡ true
-  abstract_at c k is there =
-      sym (ap (λ o. holds_some o (λ (z : Class). z.is_abstract)) there)
-      ∙ (sym (ap (λ o. where_some o (λ d. holds_some (cs.class d) (λ (z : Class). z.is_abstract))) is) ∙ j.arrays)
-
   pub tabled : Tabled cs
-  tabled = record { entry = fields_found files j.types; arrays_abstract = abstract_at; constructors = λ c i m low e h. constructors files c i m e h }
+  tabled = record { entry = fields_found files j.types; constructors = λ c i m low e h. constructors files c i m e h }

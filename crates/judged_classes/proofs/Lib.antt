@@ -1,4 +1,3 @@
 mod Fields
 mod Natives
-pub mod BaseArrays
 pub mod JudgedLaws

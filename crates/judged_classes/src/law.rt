@@ -1,14 +1,13 @@
 //! What the classes of judged files have.
 
-ghost use Rattle.std.specs.Prelude.{◌≡◌, true, List};
+ghost use Rattle.std.specs.Prelude.{◌≡◌, List};
 ghost use Rattle.file_tables.specs.File.{FilePart};
 ghost use Rattle.classes.specs.Reading.{IsRead};
 ghost use Rattle.class_rules.specs.Rules.{Keeps};
 ghost use Rattle.world_rows.specs.World.{type_count, rows_alone, ecma_sources};
-ghost use Rattle.base_rows.specs.Facts.{base};
 ghost use Rattle.cil_types.specs.Spelt.{AreSpelt};
 ghost use Rattle.ecma_effects.specs.Told.{Tabled};
-ghost use Rattle.judged_classes.specs.Judged.{IsJudged, arrays_abstract};
+ghost use Rattle.judged_classes.specs.Judged.{IsJudged};
 
 /// Their members belong to one class, and their kinds are told by names and superclasses.
 pub fn judged_classes_are_read()
@@ -25,12 +24,7 @@ pub fn judged_classes_are_spelt()
     ensures { (files : List FilePart) → IsJudged files → AreSpelt (ecma_sources files).classes }
 {}
 
-/// Their fields are found by their numbers, the class of arrays is abstract, and no constructor is native.
+/// Their fields are found by their numbers, and no constructor is native.
 pub fn judged_classes_are_tabled()
     ensures { (files : List FilePart) → IsJudged files → Tabled (ecma_sources files).classes }
-{}
-
-/// System.Array of the base library is abstract, whatever files follow.
-pub fn base_arrays_are_abstract()
-    ensures { (xs : List FilePart) → arrays_abstract (ecma_sources (base xs)).classes ≡ true }
 {}

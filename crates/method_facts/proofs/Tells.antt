@@ -10,7 +10,7 @@ use Rattle.ecma_types.specs.declared.stack.PlaceType.{PlaceType as WorldPlace}
 use Rattle.machine.specs.Data.{Id, CliType, Basic, EnumOf, ClassOf, ValueOf, ArrayOf, PlaceType, Plain, To, Cell, Bits, Refers, cell_of, elem_cell}
 use Rattle.place_types.specs.Types.{id_up, number_by, place_by, place_of, place_up, type_of, type_up}
 use Rattle.classes.specs.Classes.{Classes, SigType, Spelt, ClassToken, ValueToken, ArraySig, SigPlace, Direct, ByRef, Signature, OwnField, TypeKind, Reference, Builtin, Enumeration, OtherValue}
-use Rattle.classes.specs.Queries.{basic_name, is_integer, kind_of, this_by, this_of, type_by_kind, type_of_class}
+use Rattle.classes.specs.Queries.{array, basic_name, is_integer, kind_of, this_by, this_of, type_by_kind, type_of_class}
 use Rattle.classes.specs.Queries.{place_of as place_in}
 use Rattle.classes.specs.Queries.{type_of as type_in}
 use Rattle.class_rules.specs.Rules.{data_sig_fits, field_signature_fits, holds_some, is_data_kind, is_handle, method_signature_fits, result_fits, sig_fits, sig_of_place, signature_fits}
@@ -246,7 +246,7 @@ module _ (cs : Classes) where
           kind = t.kind;
         }
 
-    pub method_told : (id : Id) (m : MethodOperand) (t : IsMethod cs id m) → method_signature_fits cs t.owner t.own ≡ true → TellsMethod cs id m
+    pub method_told : (id : Id) (m : MethodOperand) (t : IsMethod cs (array cs) id m) → method_signature_fits cs t.owner t.own ≡ true → TellsMethod cs id m
     method_told id m t h =
         record {
           owner = t.owner;
@@ -258,7 +258,7 @@ module _ (cs : Classes) where
           own_is = t.own_is;
           signed = t.signed;
           place = class_told t.owner m.class t.class;
-          abstract_class = t.class_flags.abstract;
+          unmade = t.class_flags.unmade;
           interface = t.class_flags.interface;
           constructor = t.constructor;
           this = t.this;

@@ -14,7 +14,7 @@ use Rattle.class_table.specs.declared.rows.MethodRow.{MethodRow}
 use Rattle.class_table.specs.declared.rows.ClassTable.{ClassTable}
 use Rattle.class_table.specs.Seen.{classes_seen, field_seen}
 use Rattle.class_targets.specs.Owned.{method_found}
-use Rattle.ecma_effects.specs.Known.{without_bytes}
+use Rattle.ecma_effects.specs.Known.{is_unmade, without_bytes}
 use Rattle.verify_ops.specs.declared.facts.FieldOperand.{FieldOperand}
 use Rattle.verify_ops.specs.declared.facts.MethodOperand.{MethodOperand}
 use Rattle.verify_ops.specs.Facts.{kind_of}
@@ -49,18 +49,18 @@ FieldTold cs id (Some f) = IsField cs id f
 
 -- ---- a method that its class has
 
--- the flags of a class that are asked for
-pub record Flagged (cs : Classes) (c : Id) (flags : ℕ) : Type 0 where
+-- the flags of a class that are asked for, where the class of arrays is known
+pub record Flagged (cs : Classes) (arrays : Option Id) (c : Id) (flags : ℕ) : Type 0 where
   pub class : Class
   pub class_is : cs.class c ≡ Some class
-  pub abstract : has_bit flags 7 ≡ class.is_abstract
+  pub unmade : has_bit flags 7 ≡ is_unmade arrays c class
   pub interface : has_bit flags 5 ≡ class.is_interface
 
-abbrev pub ClassFlagged : Classes → Id → Option ℕ → Type 0
-ClassFlagged cs c None = cs.class c ≡ None
-ClassFlagged cs c (Some flags) = Flagged cs c flags
+abbrev pub ClassFlagged : Classes → Option Id → Id → Option ℕ → Type 0
+ClassFlagged cs arrays c None = cs.class c ≡ None
+ClassFlagged cs arrays c (Some flags) = Flagged cs arrays c flags
 
-pub record IsMethod (cs : Classes) (id : Id) (m : MethodOperand) : Type 0 where
+pub record IsMethod (cs : Classes) (arrays : Option Id) (id : Id) (m : MethodOperand) : Type 0 where
   pub owner : Id
   pub own : OwnMethod
   pub signature : Signature
@@ -68,7 +68,7 @@ pub record IsMethod (cs : Classes) (id : Id) (m : MethodOperand) : Type 0 where
   pub own_is : method_at cs id ≡ Some own
   pub signed : own.signature ≡ Some signature
   pub class : m.class ≡ class_to cs owner
-  pub class_flags : Flagged cs owner m.class_flags
+  pub class_flags : Flagged cs arrays owner m.class_flags
   pub constructor : m.constructor ≡ is_constructor own
   pub this : m.this ≡ signature.has_this
   pub params : m.params.now ≡ map place_to (map (place_of cs) signature.parameters)
@@ -80,9 +80,9 @@ abbrev pub is_method : Classes → Id → Bool
 is_method cs id = holds_some (method_at cs id) (λ m. is_some m.signature)
 
 -- a method with a signature
-abbrev pub MethodTold : Classes → Id → Option MethodOperand → Type 0
-MethodTold cs id None = is_method cs id ≡ false
-MethodTold cs id (Some m) = IsMethod cs id m
+abbrev pub MethodTold : Classes → Option Id → Id → Option MethodOperand → Type 0
+MethodTold cs arrays id None = is_method cs id ≡ false
+MethodTold cs arrays id (Some m) = IsMethod cs arrays id m
 
 -- ---- the places of a method
 

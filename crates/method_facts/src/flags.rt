@@ -19,7 +19,8 @@ const ABSTRACT: u16 = 0x400;
 
 const INTERFACE: u32 = 0x20;
 
-const ABSTRACT_CLASS: u32 = 0x80;
+/// The flag of abstract types, which is told here of all of which `newobj` makes no object.
+const UNMADE: u32 = 0x80;
 
 /// The flags that tell where a field is kept.
 pub fn field_flags(kind: FieldKind<'_>) -> u16
@@ -46,15 +47,15 @@ pub fn method_flags(is_static: bool, is_abstract: bool) -> u16
     }
 }
 
-/// The flags that tell whether a type is abstract and an interface.
-pub fn class_flags(is_abstract: bool, is_interface: bool) -> u32
-    ensures is_abstract { has_bit result 7 ≡ is_abstract }
+/// The flags that tell whether `newobj` makes no object of a type, and whether it is an interface.
+pub fn class_flags(is_unmade: bool, is_interface: bool) -> u32
+    ensures is_unmade { has_bit result 7 ≡ is_unmade }
     ensures is_interface { has_bit result 5 ≡ is_interface }
 {
-    match (is_abstract, is_interface) {
+    match (is_unmade, is_interface) {
         (false, false) => 0,
-        (true, false) => ABSTRACT_CLASS,
+        (true, false) => UNMADE,
         (false, true) => INTERFACE,
-        (true, true) => ABSTRACT_CLASS + INTERFACE,
+        (true, true) => UNMADE + INTERFACE,
     }
 }

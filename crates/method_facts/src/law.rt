@@ -7,7 +7,7 @@ ghost use Rattle.machine.specs.Data.{Id, Plain};
 ghost use Rattle.place_types.specs.Types.{place_of, place_up};
 ghost use Rattle.classes.specs.Classes.{Classes, Signature};
 ghost use Rattle.classes.specs.Listed.{this_before};
-ghost use Rattle.classes.specs.Queries.{type_of};
+ghost use Rattle.classes.specs.Queries.{array, type_of};
 ghost use Rattle.classes.specs.Queries.{place_of as place_in};
 ghost use Rattle.class_rules.specs.Rules.{field_signature_fits, method_signature_fits, signature_fits};
 ghost use Rattle.cil_types.specs.Spelt.{AreSpelt};
@@ -18,10 +18,11 @@ ghost use Rattle.ecma_effects.specs.Told.{TellsField, TellsMethod};
 ghost use Rattle.method_facts.specs.Members.{IsField, IsMethod};
 ghost use Rattle.method_facts.specs.Places.{place_to, result_to};
 
-/// Where classes have spellings and the signature of a field or a method fits (26, 27), what is known of it is what its row tells.
+/// Where classes have spellings and the signature of a field or a method fits (26, 27), what is known of it is what its row tells; of a
+/// method where the class of arrays is the one that is told.
 pub fn rows_tell()
     ensures field { (cs : Classes) → AreSpelt cs → (id : Id) (f : FieldOperand) → (t : IsField cs id f) → field_signature_fits cs t.own ≡ true → TellsField cs id f }
-    ensures method { (cs : Classes) → AreSpelt cs → (id : Id) (m : MethodOperand) → (t : IsMethod cs id m) → method_signature_fits cs t.owner t.own ≡ true → TellsMethod cs id m }
+    ensures method { (cs : Classes) → AreSpelt cs → (id : Id) (m : MethodOperand) → (t : IsMethod cs (array cs) id m) → method_signature_fits cs t.owner t.own ≡ true → TellsMethod cs id m }
 {}
 
 /// So are the places of a method those that the machine has.

@@ -1,9 +1,10 @@
 //! Methods that tokens name, and the places of methods.
 
-ghost use Rattle.std.specs.Prelude.{◌≡◌, IfOk, OnOk, ◌++◌, codes, map};
+ghost use Rattle.std.specs.Prelude.{◌≡◌, ◌||◌, IfOk, OnOk, ◌++◌, Some, codes, map};
+ghost use Rattle.std.specs.Option.{option_map};
 ghost use Rattle.machine.specs.Texts.{same_text};
 ghost use Rattle.classes.specs.Listed.{this_before};
-ghost use Rattle.classes.specs.Queries.{place_of};
+ghost use Rattle.classes.specs.Queries.{place_of, some_eq};
 ghost use Rattle.member_keys.specs.Seen.{class_seen, place_seen, signature_seen};
 ghost use Rattle.class_table.specs.Seen.{classes_seen};
 ghost use Rattle.method_facts.specs.Members.{ClassFlagged, MethodTold, PlacesTold, owner_or_none};
@@ -11,8 +12,9 @@ ghost use Rattle.method_facts.specs.Places.{place_to};
 
 use crate::flags::{class_flags, method_flags};
 use crate::places::{class_place, place_types, result_type, this_type};
+use class_checks::is_class;
 use class_queries::find_class;
-use class_table::ClassTable;
+use class_table::{ClassRow, ClassTable};
 use class_targets::{find_method, owned_method};
 use ecma_types::stack::PlaceType;
 use member_keys::{ClassId, SignatureKey};
@@ -34,12 +36,19 @@ fn is_constructor(name: &str) -> bool
     name == ".ctor"
 }
 
-/// The flags of a class that say whether it is abstract and an interface.
-fn flags_of(table: &ClassTable<'_>, class: ClassId) -> Option<u32>
-    ensures { ClassFlagged (classes_seen table.now) (class_seen class) result }
+/// Whether `newobj` makes no object of a class, which a row tells: it is abstract, or the class of arrays (ECMA-335 III.4.21).
+fn is_unmade(row: &ClassRow<'_>, array: Option<ClassId>, class: ClassId) -> bool
+    ensures { result ≡ (row.now.is_abstract || some_eq (Some (class_seen class)) (option_map class_seen array)) }
+{
+    row.is_abstract || is_class(array, class)
+}
+
+/// The flags of a class that say whether `newobj` makes no object of it, and whether it is an interface.
+fn flags_of(table: &ClassTable<'_>, array: Option<ClassId>, class: ClassId) -> Option<u32>
+    ensures { ClassFlagged (classes_seen table.now) (option_map class_seen array) (class_seen class) result }
 {
     let row = find_class(table, class)?;
-    Some(class_flags(row.is_abstract, row.is_interface))
+    Some(class_flags(is_unmade(row, array, class), row.is_interface))
 }
 
 /// Writes the types of a method's parameters.
@@ -56,18 +65,20 @@ fn write_parameters(
 
 /// What an instruction that takes a method needs to know of it: `None` exactly where no class has such a method, or its signature has
 /// no form or names a type that isn't there (ECMA-335 II.22.26). Of the flags of its row those that say whether it is static and
-/// abstract, of those of its class whether that is abstract and an interface. `scratch` is what the types of its parameters are
-/// written into.
+/// abstract. Of those of its class (II.23.1.15) bit 5 says whether that is an interface, and bit 7, which is otherwise of abstract
+/// types alone, whether `newobj` makes no object of it, since it is abstract or the class of arrays (III.4.21), which is `array`.
+/// `scratch` is what the types of its parameters are written into.
 ///
 /// # Errors
 ///
 /// [`NoMemory`] where the host has none left, and where a type id has no room for a class, which a world has not.
 pub fn method_operand<'s>(
     table: &ClassTable<'_>,
+    array: Option<ClassId>,
     method: ClassId,
     scratch: &'s mut Vec<PlaceType>,
 ) -> Result<Option<MethodOperand<'s>>, NoMemory>
-    ensures { IfOk result (MethodTold (classes_seen table.now) (class_seen method)) }
+    ensures { IfOk result (MethodTold (classes_seen table.now) (option_map class_seen array) (class_seen method)) }
 {
     let Some(owned) = owned_method(table, method) else {
         return Ok(None);
@@ -75,7 +86,7 @@ pub fn method_operand<'s>(
     let Some(signature) = &owned.row.signature else {
         return Ok(None);
     };
-    let Some(class_flags) = flags_of(table, owned.owner) else {
+    let Some(class_flags) = flags_of(table, array, owned.owner) else {
         return Ok(None);
     };
     let class = class_place(table, owned.owner)?;

@@ -4,7 +4,7 @@ use Rattle.std.specs.Prelude.{is_some}
 use Rattle.machine.specs.Data.{Id}
 use Rattle.classes.specs.Classes.{Classes, OwnField, OwnMethod, SigType}
 use Rattle.classes.specs.Code.{Operand as CodeOperand, NoOperand, Number, Targets, OfType, OfField, OfMethod, OfText, Unresolved}
-use Rattle.classes.specs.Queries.{field_at, method_at, type_of as type_in}
+use Rattle.classes.specs.Queries.{array, field_at, method_at, type_of as type_in}
 use Rattle.class_rules.specs.Rules.{field_signature_fits, holds_some, method_signature_fits}
 use Rattle.cil_types.specs.Spelt.{AreSpelt}
 use Rattle.place_types.specs.Held.{has_arrays}
@@ -56,7 +56,7 @@ module _ (cs : Classes) (spelt : AreSpelt cs) where
         arrays = λ t e. absurd (cc e);
       }
 
-  method_known : (id : Id) → OperandFits cs (OfMethod id) → (o : Option MethodOperand) → MethodTold cs id o → TellsOperand cs (OfMethod id) (method_or_none o)
+  method_known : (id : Id) → OperandFits cs (OfMethod id) → (o : Option MethodOperand) → MethodTold cs (array cs) id o → TellsOperand cs (OfMethod id) (method_or_none o)
   method_known id h None told = absurd (method_there id (cs.method_owner id) h told)
   method_known id h (Some m) told =
       record {
@@ -72,7 +72,7 @@ module _ (cs : Classes) (spelt : AreSpelt cs) where
           sym (ap (λ o. holds_some o (method_signature_fits cs told.owner)) told.own_is)
           ∙ (sym (ap (λ o. holds_some o (λ owner. holds_some (method_at cs id) (method_signature_fits cs owner))) told.owner_is) ∙ h)
 
-  pub operand_known : (o : CodeOperand) (p : Operand) → OperandTold cs o p → OperandFits cs o → TellsOperand cs o p
+  pub operand_known : (o : CodeOperand) (p : Operand) → OperandTold cs (array cs) o p → OperandFits cs o → TellsOperand cs o p
   operand_known NoOperand p (inl e) h = subst (TellsOperand cs NoOperand) (sym e) (record { type = refl; field = tt; method = tt; text = refl; arrays = λ t e. absurd (cc e) })
   operand_known NoOperand p (inr e) h = subst (TellsOperand cs NoOperand) (sym e) (record { type = refl; field = tt; method = tt; text = refl; arrays = λ t e. absurd (cc e) })
   operand_known (Number n) p e h = subst (TellsOperand cs (Number n)) (sym e) (record { type = refl; field = tt; method = tt; text = refl; arrays = λ t e. absurd (cc e) })

@@ -1,6 +1,6 @@
 //! Operands of instructions.
 
-ghost use Rattle.std.specs.Prelude.{◌≡◌, ◌<◌, ◌==◌, ◌&&◌, if◌then◌else◌, is_some, ℕ, ℤ, List, IfOk, Some, length, slice_get, unsigned_abs};
+ghost use Rattle.std.specs.Prelude.{◌≡◌, ◌<◌, ◌==◌, ◌&&◌, if◌then◌else◌, is_some, ℕ, ℤ, List, Option, IfOk, Some, length, slice_get, unsigned_abs};
 ghost use Rattle.std.specs.Option.{option_map};
 ghost use Rattle.file_tables.specs.File.{FilePart};
 ghost use Rattle.machine.specs.Data.{Id};
@@ -79,7 +79,7 @@ fn find_method(world: &World<'_>, file: u16, token: u32) -> Option<ClassId>
 /// What is known of the type that a token names.
 fn read_type<'s>(world: &World<'_>, file: u16, token: u32) -> Result<Operand<'s>, NoMemory>
     requires { file < length world.now }
-    ensures { IfOk result (OperandTold (ecma_sources world.now).classes (or_unresolved OfType (type_meant world.now file token))) }
+    ensures { IfOk result (λ known. (arrays : Option Id) → OperandTold (ecma_sources world.now).classes arrays (or_unresolved OfType (type_meant world.now file token)) known) }
 {
     match find_type(world.names(), file, token) {
         Some(key) => Ok(Operand::OfType(place_type(world.classes(), key)?)),
@@ -90,7 +90,7 @@ fn read_type<'s>(world: &World<'_>, file: u16, token: u32) -> Result<Operand<'s>
 /// What is known of the field that a token names.
 fn read_field<'s>(world: &World<'_>, file: u16, token: u32) -> Result<Operand<'s>, NoMemory>
     requires { file < length world.now }
-    ensures { IfOk result (OperandTold (ecma_sources world.now).classes (or_unresolved OfField (field_resolved world.now file token))) }
+    ensures { IfOk result (λ known. (arrays : Option Id) → OperandTold (ecma_sources world.now).classes arrays (or_unresolved OfField (field_resolved world.now file token)) known) }
 {
     let Some(field) = find_field(world, file, token) else {
         return Ok(Operand::Unresolved);
@@ -104,17 +104,18 @@ fn read_field<'s>(world: &World<'_>, file: u16, token: u32) -> Result<Operand<'s
 /// What is known of the method that a token names.
 fn read_method<'s>(
     world: &World<'_>,
+    array: Option<ClassId>,
     file: u16,
     token: u32,
     scratch: &'s mut Vec<PlaceType>,
 ) -> Result<Operand<'s>, NoMemory>
     requires { file < length world.now }
-    ensures { IfOk result (OperandTold (ecma_sources world.now).classes (or_unresolved OfMethod (method_resolved world.now file token))) }
+    ensures { IfOk result (OperandTold (ecma_sources world.now).classes (option_map class_seen array) (or_unresolved OfMethod (method_resolved world.now file token))) }
 {
     let Some(method) = find_method(world, file, token) else {
         return Ok(Operand::Unresolved);
     };
-    match method_operand(world.classes(), method, scratch)? {
+    match method_operand(world.classes(), array, method, scratch)? {
         Some(known) => Ok(Operand::Method(known)),
         None => Ok(Operand::Unresolved),
     }
@@ -134,26 +135,27 @@ fn read_text<'s>(tables: &Tables<'_>, token: u32) -> Operand<'s>
 
 /// What is known of an instruction's operand: of a token the type, the field, the method or the text that it names in its file, and
 /// [`Operand::Unresolved`] exactly where it names nothing, or a member whose signature has no form or names a type that isn't there.
-/// `kind` is the operand's (ECMA-335 III.1.9), `token` its number where it is a token. The types of a method's parameters are written into
-/// `scratch`, which needs no memory once it has grown.
+/// `array` is the class of arrays, of which `newobj` makes no object (ECMA-335 III.4.21). `kind` is the operand's (III.1.9), `token` its
+/// number where it is a token. The types of a method's parameters are written into `scratch`, which needs no memory once it has grown.
 ///
 /// # Errors
 ///
 /// [`NoMemory`] where the host has none left.
 pub fn read_operand<'s>(
     world: &World<'_>,
+    array: Option<ClassId>,
     file: u16,
     kind: Kind,
     token: u32,
     scratch: &'s mut Vec<PlaceType>,
 ) -> Result<Operand<'s>, NoMemory>
     requires { file < length world.now }
-    ensures { IfOk result (λ known. (f : FilePart) (code : List ℕ) (at next : ℕ) (n : ℤ) → slice_get world.now file ≡ Some f → unsigned_abs n ≡ token → OperandTold (ecma_sources world.now).classes (operand_of world.now file f code at next kind n) known) }
+    ensures { IfOk result (λ known. (f : FilePart) (code : List ℕ) (at next : ℕ) (n : ℤ) → slice_get world.now file ≡ Some f → unsigned_abs n ≡ token → OperandTold (ecma_sources world.now).classes (option_map class_seen array) (operand_of world.now file f code at next kind n) known) }
 {
     match kind {
         Kind::TypeToken => read_type(world, file, token),
         Kind::FieldToken | Kind::AnyToken => read_field(world, file, token),
-        Kind::MethodToken => read_method(world, file, token, scratch),
+        Kind::MethodToken => read_method(world, array, file, token, scratch),
         Kind::StringToken => Ok(read_text(world.tables(file), token)),
         _ => Ok(Operand::Nothing),
     }

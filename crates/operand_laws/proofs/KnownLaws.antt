@@ -7,7 +7,7 @@ use Rattle.machine.specs.Data.{Id}
 use Rattle.classes.specs.Classes.{Classes, OwnField, SigType}
 use Rattle.classes.specs.Code.{Operand as CodeOperand, OfField, OfMethod, OfType}
 use Rattle.classes.specs.Listed.{field_of, method_of}
-use Rattle.classes.specs.Queries.{field_at, fields_of}
+use Rattle.classes.specs.Queries.{array, field_at, fields_of}
 use Rattle.classes.specs.Reading.{IsRead}
 use Rattle.class_rules.specs.Rules.{Keeps}
 use Rattle.cil_types.specs.Spelt.{AreSpelt}
@@ -81,7 +81,7 @@ module _ (files : List FilePart) where
             arrays = t.arrays;
           }
 
-      pub operands_known : (file : ℕ) (f : FilePart) (code : List ℕ) (at next : ℕ) (kind : Kind) (n : ℤ) → slice_get files file ≡ Some f → (known : Operand) → OperandTold cs (operand_of files file f code at next kind n) known → IsOperand cs (operand_of files file f code at next kind n) known
+      pub operands_known : (file : ℕ) (f : FilePart) (code : List ℕ) (at next : ℕ) (kind : Kind) (n : ℤ) → slice_get files file ≡ Some f → (known : Operand) → OperandTold cs (array cs) (operand_of files file f code at next kind n) known → IsOperand cs (operand_of files file f code at next kind n) known
       operands_known file f code at next kind n here known told =
           let o = operand_of files file f code at next kind n in
           asked o known (operand_known cs spelt o known told (fits file f here (raw_operand f.metadata code at next kind n)))

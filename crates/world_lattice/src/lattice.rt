@@ -1,6 +1,9 @@
 //! The order of a world's types.
 
 ghost use Rattle.std.specs.Prelude.{◌≡◌};
+ghost use Rattle.std.specs.Option.{option_map};
+ghost use Rattle.classes.specs.Queries.{array};
+ghost use Rattle.member_keys.specs.Seen.{class_seen};
 ghost use Rattle.class_table.specs.Seen.{classes_seen};
 ghost use Rattle.class_order.specs.Types.{AreOrdered};
 ghost use Rattle.world_lattice.specs.Order.{Merges, is_assignable, loaded_as};
@@ -9,6 +12,7 @@ use crate::spelling::{rowed, spelling};
 use class_order::Order;
 use ecma_types::lattice::Lattice;
 use ecma_types::stack::{PlaceType, StackType};
+use member_keys::ClassId;
 use place_types::types::loaded;
 use plain_types::fault::NoMemory;
 use std::alloc::Global;
@@ -38,6 +42,13 @@ impl<'t, 'a> WorldLattice<'t, 'a> {
         ensures { result ≡ order.now.table.now }
     {
         WorldLattice { order }
+    }
+
+    /// The class of arrays; `None` where the base library lacks it.
+    pub fn array(&self) -> Option<ClassId>
+        ensures { option_map class_seen result ≡ array (classes_seen self.now) }
+    {
+        self.order.basic.array
     }
 }
 
