@@ -18,10 +18,10 @@ pub fn first_places<K: Ord + Drop>(
     ensures { IfOk result (FindsFirst K.cmp keys.items) }
 {
     let mut places = BTreeMap::new(alloc);
-    for (place, key) in keys.into_iter().enumerate() {
-        if places.get(&key).is_none() {
-            places.insert(key, place as u32)?;
-        }
+    let mut before = keys;
+    // From the last key on, so that of equal ones the first is written at last.
+    while let Some(key) = before.pop() {
+        places.insert(key, before.len() as u32)?;
     }
     Ok(places)
 }

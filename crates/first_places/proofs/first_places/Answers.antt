@@ -1,26 +1,20 @@
-use Rattle.std.proofs.Common.{◌≡◌, ℕ, sym, ap, ◌∙◌, arith, length-append, ◌∷◌, [], not, refl, Option, Some, None, Bor}
-use Rattle.std.specs.Option.{is_some, option_copied}
-use Rattle.first_places.proofs.PlaceLaws.{known_step, new_step}
+use Rattle.std.proofs.Common.{◌≡◌, ap, arith, rules, length, length-append, ◌∷◌, []}
+use Rattle.std.proofs.lemmas.List.{nil_from_length}
+use Rattle.first_places.proofs.PlaceLaws.{behind_all, behind_more, behind_none}
 use Rattle.first_places.proofs.first_places.Goals as goal
 
-copied_is_there : (o : Option (Bor ℕ)) → is_some (option_copied o) ≡ is_some o
-copied_is_there None = refl
-copied_is_there (Some x) = refl
+pub loop-key-init : goal.loop-key-init
+loop-key-init g c = record { fewer = omega arith; finds = behind_all g.K.Ord.cmp c.args.keys.items c.new-places.result c.new-places.ensures.empty }
 
-pub loop-place-preserved-in_ok-insert : goal.loop-place-preserved-in_ok-insert
-loop-place-preserved-in_ok-insert g c =
+pub loop-key-preserved : goal.loop-key-preserved
+loop-key-preserved g c =
+    let front = c.pop.new.self.items in
+    let key = c.in-Some.key in
+    let counted : c.len.result ≡ length front = omega (arith, c.len.ensures, c.pop.new.self.ok) in
     record {
-      finds = new_step g.K.Ord.cmp g.met.K.Ord.total c.loop-place.places c.insert.new.self c.loop-place.yielded c.in-Some.place c.in-Some.key
-          (ap is_some (sym c.get.ensures.value) ∙ copied_is_there c.get.result ∙ c.is_none.ensures ∙ ap not c.if-is_none.true)
-          (c.in-Some.ensures.steps.1 ∙ c.loop-place.invariant.counted) c.in_ok-insert.ensures.updates c.loop-place.invariant.finds;
-      counted = omega (arith, c.in-Some.ensures.steps.2, c.loop-place.invariant.counted, length-append c.loop-place.yielded ((c.in-Some.place, c.in-Some.key) ∷ []));
+      fewer = omega (arith, ap length c.in-Some.ensures.items, length-append front (key ∷ []), c.loop-key.invariant.fewer);
+      finds = behind_more g.K.Ord.cmp g.met.K.Ord.total c.loop-key.places c.insert.new.self c.args.keys.items c.loop-key.before.items front key c.len.result c.in-Some.ensures.items counted c.in_ok-insert.ensures.updates c.loop-key.invariant.finds;
     }
 
-pub loop-place-preserved : goal.loop-place-preserved
-loop-place-preserved g c =
-    record {
-      finds = known_step g.K.Ord.cmp g.met.K.Ord.total c.loop-place.places c.loop-place.yielded c.in-Some.place c.in-Some.key
-          (ap is_some (sym c.get.ensures.value) ∙ copied_is_there c.get.result ∙ c.is_none.ensures ∙ ap not c.if-is_none.false)
-          c.loop-place.invariant.finds;
-      counted = omega (arith, c.in-Some.ensures.steps.2, c.loop-place.invariant.counted, length-append c.loop-place.yielded ((c.in-Some.place, c.in-Some.key) ∷ []));
-    }
+pub returns : goal.returns
+returns g c = behind_none g.K.Ord.cmp c.loop-key.places c.args.keys.items c.loop-key.before.items (nil_from_length _ (search rules)) c.loop-key.invariant.finds

@@ -1,6 +1,13 @@
-use Rattle.std.proofs.Common.{◌≡◌, length, map}
-use Rattle.first_places.specs.Places.{FindsFirst}
+use Rattle.std.proofs.Common.{◌≤◌, length}
+use Rattle.first_places.proofs.PlaceLaws.{FindsBehind}
 use Rattle.first_places.proofs.first_places.Given as goal
 
-abbrev pub invariant-loop-place : goal.invariant-loop-place
-invariant-loop-place g l = record { finds : FindsFirst g.K.Ord.cmp (map (λ e. e.1) l.yielded) l.places; counted : l.place-iterator.count ≡ length l.yielded }
+abbrev pub invariant-loop-key : goal.invariant-loop-key
+invariant-loop-key g l = record {
+  fewer : length l.before.items ≤ length l.fn.keys.items;
+  finds : FindsBehind g.K.Ord.cmp l.fn.keys.items l.before.items l.places;
+}
+
+-- each turn takes a key
+abbrev pub decreases-loop-key : goal.decreases-loop-key
+decreases-loop-key g l = length l.before.items

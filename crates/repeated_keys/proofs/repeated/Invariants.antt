@@ -1,10 +1,10 @@
-use Rattle.std.proofs.Common.{◌≡◌, length}
-use Rattle.repeated_keys.specs.Repeats.{AreRepeats, HasKeys}
+use Rattle.std.proofs.Common.{length}
+use Rattle.repeated_keys.proofs.RepeatLaws.{IsTold}
 use Rattle.repeated_keys.proofs.repeated.Given as goal
 
 abbrev pub invariant-loop-key : goal.invariant-loop-key
-invariant-loop-key g l = record {
-  count : length l.repeats.items ≡ length l.yielded;
-  seen : HasKeys g.K.Ord.cmp l.yielded l.seen;
-  told : AreRepeats g.K.Ord.cmp l.yielded l.repeats.items;
-}
+invariant-loop-key g l = IsTold g.K.Ord.cmp l.fn.keys.items l.before.items l.nearest l.repeats.items
+
+-- each turn takes a key
+abbrev pub decreases-loop-key : goal.decreases-loop-key
+decreases-loop-key g l = length l.before.items
