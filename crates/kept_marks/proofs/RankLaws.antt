@@ -13,9 +13,11 @@ use Rattle.row_closure.proofs.Places.{get_push}
 use Rattle.row_numbers.specs.declared.table.Table.{Table}
 use Rattle.row_numbers.specs.declared.table.Table.TheVariants as table
 use Rattle.kept_numbers.specs.Numbers.{number_of, place_in, start_of}
-use Rattle.row_numbers.specs.Tables.{row_in, table_length, first_number}
+use Rattle.row_numbers.specs.Tables.{row_in, table_length, first_number, AreCounts, range_by}
 use Rattle.kept_marks.specs.Ranks.{rank, AreRanks}
-use Rattle.kept_marks.specs.Kept.{is_kept, kept_row, kept_count}
+use Rattle.row_numbers.specs.declared.table.TableRange.{TableRange}
+use Rattle.row_numbers.proofs.RangeLaws.{found_by}
+use Rattle.kept_marks.specs.Kept.{Marked, is_kept, kept_row, kept_count, marked_in, marked}
 
 -- ---- ranks one after the other
 
@@ -203,3 +205,63 @@ rank_read marks ranks are a i x is e =
 
 pub rank_below : (marks : List Bool) (a b : ℕ) → a ≤ b → rank marks a ≤ rank marks b
 rank_below marks a b le = let sum : a + (b - a) ≡ b = omega (arith, le) in subst (λ n. rank marks a ≤ rank marks n) sum (rank_grows marks a (b - a))
+
+-- ---- by the counts alone
+
+module _ (marks : List Bool) (r : TableRange) where
+  abbrev held : ℕ → Bool
+  held = marked_in marks r
+
+  held_at : (n : ℕ) → n < r.count → held n ≡ holds marks (r.first + n)
+  held_at n lt = ap (λ (b : Bool). if b then holds marks (r.first + n) else false) (lt-ltb n r.count lt)
+
+  held_past : (n : ℕ) → r.count ≤ n → held n ≡ false
+  held_past n le = ap (λ (b : Bool). if b then holds marks (r.first + n) else false) (le-ltb n r.count le)
+
+  rank_held : (n : ℕ) → n ≤ r.count → rank marks (r.first + n) ≡ rank marks r.first + below held n
+  rank_held zero le = let same : r.first + 0 ≡ r.first = omega arith in let sum : rank marks r.first ≡ rank marks r.first + 0 = omega arith in ap (rank marks) same ∙ sum
+  rank_held (suc n) le =
+      let ih = rank_held n (omega (arith, le)) in
+      let same : r.first + suc n ≡ suc (r.first + n) = omega arith in
+      let low = ap (rank marks) same ∙ below_next (holds marks) (r.first + n) in
+      let high = below_next held n ∙ ap (λ (b : Bool). if b then suc (below held n) else below held n) (held_at n (omega (arith, le))) in
+      go (holds marks (r.first + n)) low high ih
+    where
+      go : (b : Bool) → rank marks (r.first + suc n) ≡ (if b then suc (rank marks (r.first + n)) else rank marks (r.first + n)) → below held (suc n) ≡ (if b then suc (below held n) else below held n) → rank marks (r.first + n) ≡ rank marks r.first + below held n → rank marks (r.first + suc n) ≡ rank marks r.first + below held (suc n)
+      go true e g h = omega (arith, e, g, h)
+      go false e g h = omega (arith, e, g, h)
+
+  below_past : (k : ℕ) → below held (r.count + k) ≡ below held r.count
+  below_past zero = let same : r.count + 0 ≡ r.count = omega arith in ap (below held) same
+  below_past (suc k) =
+      let same : r.count + suc k ≡ suc (r.count + k) = omega arith in
+      let none = held_past (r.count + k) (omega arith) in
+      ap (below held) same ∙ below_next held (r.count + k) ∙ ap (λ (b : Bool). if b then suc (below held (r.count + k)) else below held (r.count + k)) none ∙ below_past k
+
+  pub below_is : (row few n : ℕ) → few ≡ min row r.count → rank marks r.first + n ≡ rank marks (r.first + few) → n ≡ below held row
+  below_is row few n is sum =
+      ⊎_elim
+      (λ lt.
+      let same : few ≡ row = omega (arith, is, lt) in
+      let low : rank marks (r.first + few) ≡ rank marks (r.first + row) = ap (λ k. rank marks (r.first + k)) same in
+      let high = rank_held row (omega (arith, lt)) in
+      omega (arith, sum, low, high))
+      (λ le.
+      let same : few ≡ r.count = omega (arith, is, le) in
+      let low : rank marks (r.first + few) ≡ rank marks (r.first + r.count) = ap (λ k. rank marks (r.first + k)) same in
+      let high = rank_held r.count (omega arith) in
+      let more : r.count + (row - r.count) ≡ row = omega (arith, le) in
+      let whole = below_past (row - r.count) in
+      let end : below held (r.count + (row - r.count)) ≡ below held row = ap (below held) more in
+      omega (arith, sum, low, high, whole, end))
+      (cases_lt row r.count)
+
+-- those that are marked are those that are kept
+pub marked_is : (ps : List Assembly) (k : Marked) (t : Table) (f n : ℕ) → AreCounts ps k.counts → marked k t f n ≡ is_kept ps k.marks t f n
+marked_is ps k t f n are =
+    go (nat_lt n (range_by k.counts t f).count) ((range_by k.counts t f).first + n)
+    ∙ sym (ap (λ o. option_map_or (λ i. holds k.marks i) o false) (found_by ps k.counts are t f n))
+  where
+    go : (b : Bool) (at : ℕ) → (if b then holds k.marks at else false) ≡ option_map_or (λ i. holds k.marks i) (if b then Some at else None) false
+    go true at = refl
+    go false at = refl

@@ -5,7 +5,8 @@ ghost use Rattle.assemblies.specs.Rows.{Assembly};
 ghost use Rattle.row_closure.specs.Closure.{holds};
 ghost use Rattle.row_numbers.specs.Tables.{AreCounts};
 ghost use Rattle.kept_marks.specs.Ranks.{rank};
-ghost use Rattle.kept_marks.specs.Kept.{kept_row, kept_count};
+ghost use Rattle.kept_rows.specs.Select.{below};
+ghost use Rattle.kept_marks.specs.Kept.{kept_row, kept_count, marked};
 
 use crate::ranks::ranks;
 use plain_types::fault::NoMemory;
@@ -89,5 +90,28 @@ impl Kept {
         };
         let end = first as usize + self.numbers.count(file, table) as usize;
         self.between(first as usize, end)
+    }
+
+    /// The row of a table is there and is kept.
+    pub fn keeps(&self, file: u16, table: Table, row: u32) -> bool
+        ensures { result ≡ marked self.now table file row }
+    {
+        let range = self.numbers.range(file, table);
+        if row < range.count {
+            self.holds(range.first as usize + row as usize)
+        } else {
+            false
+        }
+    }
+
+    /// How many of the rows of a table that stand before a row are kept: the number of that row among the kept ones, if it is
+    /// one of them.
+    pub fn below(&self, file: u16, table: Table, row: u64) -> u32
+        ensures { result ≡ below (marked self.now table file) row }
+    {
+        let range = self.numbers.range(file, table);
+        let first = range.first as usize;
+        let few = row.min(u64::from(range.count)) as usize;
+        self.between(first, first + few)
     }
 }

@@ -92,7 +92,7 @@ module _ (ps : List Assembly) (counts : List PerTable) (are : AreCounts ps count
   same_count f p c at e =
       omega (arith, are.each f p c table.AssemblyRef at e, are.each f p c table.TypeRef at e, are.each f p c table.FieldRef at e, are.each f p c table.MethodRef at e, are.each f p c table.TypeDef at e, are.each f p c table.Field at e, are.each f p c table.MethodDef at e, are.each f p c table.TypeSpec at e)
 
-  place_is : (f : ℕ) (p : Assembly) (c : PerTable) (t : Table) (n : ℕ) → slice_get ps f ≡ Some p → slice_get counts f ≡ Some c → place_in p (row_in t f n) ≡ before c t + n
+  pub place_is : (f : ℕ) (p : Assembly) (c : PerTable) (t : Table) (n : ℕ) → slice_get ps f ≡ Some p → slice_get counts f ≡ Some c → place_in p (row_in t f n) ≡ before c t + n
   place_is f p c t n at e = go t
     where
       a : c.assembly_refs ≡ length p.assemblies
@@ -126,7 +126,7 @@ module _ (ps : List Assembly) (counts : List PerTable) (are : AreCounts ps count
       go table.MethodDef = omega (arith, a, r, g, h, y, d)
       go table.TypeSpec = omega (arith, a, r, g, h, y, d, m)
 
-  file_is : (t : Table) (f n : ℕ) → file_of (row_in t f n) ≡ f
+  pub file_is : (t : Table) (f n : ℕ) → file_of (row_in t f n) ≡ f
   file_is table.AssemblyRef f n = refl
   file_is table.TypeRef f n = refl
   file_is table.FieldRef f n = refl
@@ -137,7 +137,7 @@ module _ (ps : List Assembly) (counts : List PerTable) (are : AreCounts ps count
   file_is table.TypeSpec f n = refl
 
 -- so many rows are before those of an assembly
-same_start : (ps : List Assembly) (counts : List PerTable) → AreCounts ps counts → (f : ℕ) → start_of ps f ≡ start_by counts f
+pub same_start : (ps : List Assembly) (counts : List PerTable) → AreCounts ps counts → (f : ℕ) → start_of ps f ≡ start_by counts f
 same_start [] [] are f = refl
 same_start [] (c ∷ cs) are f = absurd (let same = are.files in omega (arith, same))
 same_start (p ∷ ps) [] are f = absurd (let same = are.files in omega (arith, same))

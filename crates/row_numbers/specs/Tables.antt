@@ -9,6 +9,7 @@ use Rattle.row_numbers.specs.declared.table.Table.{Table}
 use Rattle.row_numbers.specs.declared.table.Table.TheVariants as table
 use Rattle.row_numbers.specs.declared.table.PerTable.{PerTable}
 use Rattle.row_numbers.specs.declared.numbers.Firsts.{Firsts}
+use Rattle.row_numbers.specs.declared.table.TableRange.{TableRange}
 
 abbrev pub of_table : PerTable → Table → ℕ
 of_table c table.AssemblyRef = c.assembly_refs
@@ -85,3 +86,11 @@ pub record AreFirsts (counts firsts : List PerTable) : Type 0 where
   pub files : length firsts ≡ length counts
   pub tables : (f : ℕ) (s c : PerTable) (t : Table) → slice_get firsts f ≡ Some s → slice_get counts f ≡ Some c → of_table s t ≡ start_by counts f + before c t
   pub fits : (f : ℕ) (c : PerTable) → slice_get counts f ≡ Some c → start_by counts f + all_rows_of c < 2 ^ 32
+
+-- the numbers of a table's rows; none, from 0, where there is no such assembly
+abbrev pub range_in : List PerTable → Table → ℕ → Option PerTable → TableRange
+range_in counts t f None = record { first = 0; count = 0 }
+range_in counts t f (Some c) = record { first = start_by counts f + before c t; count = of_table c t }
+
+abbrev pub range_by : List PerTable → Table → ℕ → TableRange
+range_by counts t f = range_in counts t f (slice_get counts f)

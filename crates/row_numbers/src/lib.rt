@@ -5,4 +5,4 @@ mod numbers;
 mod table;
 
 pub use numbers::RowNumbers;
-pub use table::{PerTable, Table};
+pub use table::{PerTable, Table, TableRange};

@@ -3,9 +3,9 @@
 ghost use Rattle.std.specs.Prelude.{◌≡◌, ℕ, ◌+◌, ◌<◌, ◌^◌, IfOk, IfSome, List, Some, length, slice_get};
 ghost use Rattle.std.specs.Option.{option_map_or};
 ghost use Rattle.assemblies.specs.Rows.{Assembly};
-ghost use Rattle.row_numbers.specs.Tables.{AreFirst, AreFirsts, AreCounts, table_length, found_number, first_number};
+ghost use Rattle.row_numbers.specs.Tables.{AreFirst, AreFirsts, AreCounts, table_length, found_number, first_number, range_by};
 
-use crate::table::{PerTable, Table};
+use crate::table::{PerTable, Table, TableRange};
 use plain_types::fault::NoMemory;
 use std::alloc::Global;
 use std::marker::Model;
@@ -113,6 +113,20 @@ impl RowNumbers {
         match self.counts.get(file as usize) {
             Some(counts) => counts.of(table),
             None => 0,
+        }
+    }
+
+    /// Which numbers the rows of a table have: none, from 0, where there is no such assembly.
+    pub fn range(&self, file: u16, table: Table) -> TableRange
+        ensures range { result ≡ range_by self.now table file }
+        ensures fits { result.first + result.count < 2 ^ 32 }
+    {
+        let Some(counts) = self.counts.get(file as usize) else {
+            return TableRange { first: 0, count: 0 };
+        };
+        TableRange {
+            first: self.firsts[file as usize].of(table),
+            count: counts.of(table),
         }
     }
 }

@@ -47,3 +47,10 @@ impl PerTable {
         }
     }
 }
+
+/// Which numbers the rows of a table have.
+#[derive(Clone, Copy, Debug, PartialEq, Eq)]
+pub struct TableRange {
+    pub first: u32,
+    pub count: u32,
+}

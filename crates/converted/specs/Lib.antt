@@ -1,0 +1,6 @@
+pub mod Cut
+pub mod Bodies
+pub mod Choosing
+pub mod Images
+pub mod Over
+pub mod Numbered
