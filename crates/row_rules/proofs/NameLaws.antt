@@ -19,26 +19,26 @@ use Rattle.row_rules.specs.Links.{Link, keeps, keeps_each, links_from}
 use Rattle.row_rules.specs.Named.{named_by_ref, named_by_field_ref, named_by_method_ref, named_by_field, named_by_spec}
 use Rattle.row_rules.specs.Rules.{AreNames}
 
-get_map : {A B : Type 0} (g : A → B) (xs : List A) (i : ℕ) → slice_get (map g xs) i ≡ option_map g (slice_get xs i)
+pub get_map : {A B : Type 0} (g : A → B) (xs : List A) (i : ℕ) → slice_get (map g xs) i ≡ option_map g (slice_get xs i)
 get_map g [] i = refl
 get_map g (x ∷ xs) zero = refl
 get_map g (x ∷ xs) (suc i) = get_map g xs i
 
-get_front : {A : Type 0} (xs ys : List A) (i : ℕ) (x : A) → slice_get xs i ≡ Some x → slice_get (xs ++ ys) i ≡ Some x
+pub get_front : {A : Type 0} (xs ys : List A) (i : ℕ) (x : A) → slice_get xs i ≡ Some x → slice_get (xs ++ ys) i ≡ Some x
 get_front [] ys i x e = absurd (cc e)
 get_front (y ∷ xs) ys zero x e = e
 get_front (y ∷ xs) ys (suc i) x e = get_front xs ys i x e
 
-get_behind : {A : Type 0} (xs ys : List A) (k : ℕ) → slice_get (xs ++ ys) (length xs + k) ≡ slice_get ys k
+pub get_behind : {A : Type 0} (xs ys : List A) (k : ℕ) → slice_get (xs ++ ys) (length xs + k) ≡ slice_get ys k
 get_behind [] ys k = let same : 0 + k ≡ k = omega arith in ap (slice_get ys) same
 get_behind (x ∷ xs) ys k = let same : suc (length xs) + k ≡ suc (length xs + k) = omega arith in ap (slice_get (x ∷ (xs ++ ys))) same ∙ get_behind xs ys k
 
 -- a rule of a row: the row's place, which of the rows that it names, and that one
-abbrev IsOf : {A : Type 0} → (ℕ → Row) → (A → List Row) → ℕ → List A → Link → Type 0
+abbrev pub IsOf : {A : Type 0} → (ℕ → Row) → (A → List Row) → ℕ → List A → Link → Type 0
 IsOf {A} at names b xs l = (n : ℕ) × ((i : ℕ) × ((x : A) × ((c : Row) × ((slice_get xs n ≡ Some x) × ((slice_get (names x) i ≡ Some c) × (l ≡ keeps (at (b + n)) c))))))
 
 module _ {A : Type 0} (at : ℕ → Row) (names : A → List Row) where
-  has_link : (b : ℕ) (xs : List A) (n i : ℕ) (x : A) (c : Row) → slice_get xs n ≡ Some x → slice_get (names x) i ≡ Some c → (k : ℕ) × (slice_get (links_from at names b xs) k ≡ Some (keeps (at (b + n)) c))
+  pub has_link : (b : ℕ) (xs : List A) (n i : ℕ) (x : A) (c : Row) → slice_get xs n ≡ Some x → slice_get (names x) i ≡ Some c → (k : ℕ) × (slice_get (links_from at names b xs) k ≡ Some (keeps (at (b + n)) c))
   has_link b [] n i x c e f = absurd (cc e)
   has_link b (y ∷ ys) zero i x c e f =
       let same : y ≡ x = cc e in
@@ -54,7 +54,7 @@ module _ {A : Type 0} (at : ℕ → Row) (names : A → List Row) where
   later : (b : ℕ) (y : A) (ys : List A) (l : Link) → IsOf at names (suc b) ys l → IsOf at names b (y ∷ ys) l
   later b y ys l (n, (i, (x, (c, (e, (f, g)))))) = let here : suc b + n ≡ b + suc n = omega arith in (suc n, (i, (x, (c, (e, (f, g ∙ ap (λ k. keeps (at k) c) here))))))
 
-  is_link : (b : ℕ) (xs : List A) (k : ℕ) (l : Link) → slice_get (links_from at names b xs) k ≡ Some l → IsOf at names b xs l
+  pub is_link : (b : ℕ) (xs : List A) (k : ℕ) (l : Link) → slice_get (links_from at names b xs) k ≡ Some l → IsOf at names b xs l
   is_link b [] k l e = absurd (cc e)
   is_link b (y ∷ ys) k l e = go (names y) 0 k (λ j c f. let z : j ≡ 0 + j = omega arith in subst (λ i. slice_get (names y) i ≡ Some c) z f) (λ j f. is_link (suc b) ys j l f) e
     where
@@ -92,14 +92,14 @@ module _ {A : Type 0} (ps : List Assembly) (at : ℕ → Row) (names : A → Lis
 -- ---- a file of a world
 
 module _ (files : List FilePart) (f : ℕ) (x : FilePart) (e : slice_get files f ≡ Some x) where
-  abbrev row : ℕ → FilePart → Assembly
+  abbrev pub row : ℕ → FilePart → Assembly
   row n y = assembly_with (size_of (rows_alone files)) files (rows_alone files) n y
 
-  stands : slice_get (assemblies_of files) f ≡ Some (row f x)
+  pub stands : slice_get (assemblies_of files) f ≡ Some (row f x)
   unfolding assemblies_of
   stands = let here : 0 + f ≡ f = omega arith in get_numbered row 0 f files ∙ ap (option_map (row (0 + f))) e ∙ ap (λ n. Some (row n x)) here
 
-  by_table : {A B : Type 0} (table : Assembly → List B) (of : B → List Row) (make : ℕ → A → B) (names : A → List Row) (xs : List A)
+  pub by_table : {A B : Type 0} (table : Assembly → List B) (of : B → List Row) (make : ℕ → A → B) (names : A → List Row) (xs : List A)
       → ((n : ℕ) → slice_get (table (row f x)) n ≡ option_map (make n) (slice_get xs n)) → ((n : ℕ) (y : A) → of (make n y) ≡ names y)
       → (n : ℕ) → of_row (assemblies_of files) table of f n ≡ unwrap_or (option_map names (slice_get xs n)) []
   by_table {A} table of make names xs made named n =
