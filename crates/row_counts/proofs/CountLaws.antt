@@ -27,7 +27,7 @@ filters_apart test (x ∷ xs) = go (test x) (filters_apart test xs)
     go true e = omega (arith, e)
     go false e = omega (arith, e)
 
-counts_apart : {A : Type 0} (test : A → Bool) (xs : List A) → count_by test xs + count_by (λ x. not (test x)) xs ≡ length xs
+pub counts_apart : {A : Type 0} (test : A → Bool) (xs : List A) → count_by test xs + count_by (λ x. not (test x)) xs ≡ length xs
 counts_apart test xs =
     let all = filters_apart test xs in
     let yes = length-filter test xs in

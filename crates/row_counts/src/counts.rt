@@ -16,7 +16,7 @@ use row_numbers::PerTable;
 const FIELD_SIGNATURE: u8 = 6;
 
 /// The signature is a field's.
-fn begins_field(blob: &[u8]) -> bool
+pub fn begins_field(blob: &[u8]) -> bool
     ensures { result ≡ begins_field blob.now }
 {
     match blob.first() {

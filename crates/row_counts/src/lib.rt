@@ -4,4 +4,4 @@
 mod counts;
 pub mod law;
 
-pub use counts::{count_rows, is_field_reference};
+pub use counts::{begins_field, count_rows, is_field_reference};

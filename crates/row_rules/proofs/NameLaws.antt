@@ -99,7 +99,7 @@ module _ (files : List FilePart) (f : ℕ) (x : FilePart) (e : slice_get files f
   unfolding assemblies_of
   stands = let here : 0 + f ≡ f = omega arith in get_numbered row 0 f files ∙ ap (option_map (row (0 + f))) e ∙ ap (λ n. Some (row n x)) here
 
-  by_table : {A B : Type 0} (table : Assembly → List B) (of : B → List Row) (make : ℕ → A → B) (names : A → List Row) (xs : List A)
+  pub by_table : {A B : Type 0} (table : Assembly → List B) (of : B → List Row) (make : ℕ → A → B) (names : A → List Row) (xs : List A)
       → ((n : ℕ) → slice_get (table (row f x)) n ≡ option_map (make n) (slice_get xs n)) → ((n : ℕ) (y : A) → of (make n y) ≡ names y)
       → (n : ℕ) → of_row (assemblies_of files) table of f n ≡ unwrap_or (option_map names (slice_get xs n)) []
   by_table {A} table of make names xs made named n =

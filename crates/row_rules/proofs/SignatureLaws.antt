@@ -11,11 +11,11 @@ use Rattle.cil_sig.specs.declared.sig.SigFault.{SigFault}
 use Rattle.cil_sig.specs.declared.sig.SigFault.TheVariants.{Bad}
 use Rattle.cil_sig.specs.declared.sig.MethodSig.{MethodSig}
 use Rattle.cil_sig.specs.Elements.{names_type}
-use Rattle.cil_sig.specs.Reading.{Part, answer, Answers, whole_field, whole_spec, whole_method}
+use Rattle.cil_sig.specs.Reading.{Part, answer, Answers, whole_field, whole_spec, whole_method, whole_locals}
 use Rattle.assemblies.specs.Rows.{RawType, RawDirect, RawByRef}
 use Rattle.kept_rules.specs.Row.{by_type, in_option, in_type, in_place, in_signature}
 use Rattle.world_rows.specs.Tokens.{coded_type, no_type}
-use Rattle.world_rows.specs.Signatures.{raw_element, in_brackets, raw_type, raw_place, is_void, raw_result, type_from, signature_from, field_signature, method_signature, spec_signature}
+use Rattle.world_rows.specs.Signatures.{raw_element, in_brackets, raw_type, raw_place, is_void, raw_result, type_from, signature_from, field_signature, method_signature, spec_signature, locals_from, locals_signature}
 use Rattle.row_rules.specs.Named.{in_sig}
 
 module _ (f : ℕ) (m : MetadataPart) where
@@ -138,5 +138,23 @@ module _ (f : ℕ) (m : MetadataPart) where
   method_faulty blob fault at is e = go (whole_method blob) (subst (λ x. Answers {X = MethodSig} (Err x) (answer blob (whole_method blob))) is e)
     where
       go : (p : Part MethodSig) → Path (Result MethodSig SigFault) (Err (Bad at)) (answer blob p) → in_signature f (signature_from m p) ≡ by_type f (no_type m) ∷ []
+      go (Ok y) h = absurd (cc h)
+      go (Err left) h = refl
+
+  -- ---- locals
+
+  locals_name : (ss : List SigType) → flat_map (in_type f) (map (raw_type m) ss) ≡ flat_map (in_sig f m) ss
+  locals_name [] = refl
+  locals_name (s ∷ ss) = ap (λ xs. in_sig f m s ++ xs) (locals_name ss)
+
+  pub locals_read : (blob : List ℕ) (ss : List SigType) → Answers {X = List SigType} (Ok ss) (answer blob (whole_locals blob)) → flat_map (in_type f) (locals_signature m blob) ≡ flat_map (in_sig f m) ss
+  unfolding locals_signature
+  locals_read blob ss e = ap (λ p. flat_map (in_type f) (locals_from m p)) (read blob (whole_locals blob) ss e) ∙ locals_name ss
+
+  pub locals_faulty : (blob : List ℕ) (fault : SigFault) (at : ℕ) → fault ≡ Bad at → Answers {X = List SigType} (Err fault) (answer blob (whole_locals blob)) → flat_map (in_type f) (locals_signature m blob) ≡ []
+  unfolding locals_signature
+  locals_faulty blob fault at is e = go (whole_locals blob) (subst (λ x. Answers {X = List SigType} (Err x) (answer blob (whole_locals blob))) is e)
+    where
+      go : (p : Part (List SigType)) → Path (Result (List SigType) SigFault) (Err (Bad at)) (answer blob p) → flat_map (in_type f) (locals_from m p) ≡ []
       go (Ok y) h = absurd (cc h)
       go (Err left) h = refl

@@ -1,4 +1,4 @@
--- The rules of rows as links.
+-- Lists of links that have the links of rules, and no others.
 use Rattle.std.specs.Prelude.{◌≡◌, ℕ, List, Some, slice_get}
 use Rattle.assemblies.specs.Rows.{Assembly}
 use Rattle.kept_rules.specs.Rules.{RowRule, first_row, second_row, then_row}

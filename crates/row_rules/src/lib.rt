@@ -11,4 +11,5 @@ mod tokens;
 pub use references::{add_field_refs, add_interfaces, add_method_refs};
 pub use rows::{add_extends, add_field_types, add_method_types, add_scopes, add_spec_types};
 pub use rules::{RowPlace, RowRules};
-pub use tokens::{scope_place, type_place};
+pub use signature::keep_locals;
+pub use tokens::{place, scope_place, type_place};

@@ -4,14 +4,14 @@ ghost use Rattle.std.specs.Prelude.{◌≡◌, [], ◌∷◌, OnOk};
 ghost use Rattle.std.specs.List.{flat_map};
 ghost use Rattle.kept_rules.specs.Row.{by_type, in_type, in_signature};
 ghost use Rattle.world_rows.specs.Tokens.{coded_type, no_type};
-ghost use Rattle.world_rows.specs.Signatures.{field_signature, method_signature, spec_signature};
+ghost use Rattle.world_rows.specs.Signatures.{field_signature, method_signature, spec_signature, locals_signature};
 ghost use Rattle.row_rules.specs.Links.{row_at, keeps, keeps_each, Adds};
 ghost use Rattle.row_rules.specs.Named.{in_sig};
 
 use crate::rules::{RowPlace, RowRules};
 use crate::tokens::type_place;
 use cil_sig::elements::is_named;
-use cil_sig::{SigFault, SigType, field_sig, method_sig, spec_sig};
+use cil_sig::{SigFault, SigType, field_sig, locals_sig, method_sig, spec_sig};
 use cil_tables::Tables;
 use file_tables::numbers::TYPE_DEF;
 use file_tables::schema::Coded;
@@ -124,5 +124,22 @@ pub fn keep_method(
         }
         Err(SigFault::NoMemory) => Err(NoMemory),
         Err(SigFault::Bad { .. }) => keep_none(rules, place, tables),
+    }
+}
+
+/// Adds that a row keeps the rows that a signature of locals names (ECMA-335 II.23.2.6).
+pub fn keep_locals(
+    alloc: Global,
+    rules: &mut RowRules,
+    place: RowPlace,
+    tables: &Tables<'_>,
+    blob: &[u8],
+) -> Result<(), NoMemory>
+    ensures { OnOk result (Adds (keeps_each (row_at place) (flat_map (in_type place.file) (locals_signature tables.now blob.now))) rules.old rules.new) }
+{
+    match locals_sig(alloc, blob) {
+        Ok(types) => keep_types(rules, place, tables, types.as_slice()),
+        Err(SigFault::NoMemory) => Err(NoMemory),
+        Err(SigFault::Bad { .. }) => Ok(()),
     }
 }
