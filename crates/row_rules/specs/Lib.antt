@@ -1,3 +1,4 @@
 pub mod Links
 pub mod Named
 pub mod Rules
+pub mod Given
