@@ -1,7 +1,8 @@
-//! Whether the slots of a class have bodies (ECMA-335 II.12.2).
+//! Whether the slots of a class have bodies, and which methods a class has (ECMA-335 II.12.2).
 #![tactic(auto)]
 
 mod own;
 mod slots;
 
+pub use own::{OwnRows, own_rows};
 pub use slots::slots_filled;

@@ -8,3 +8,4 @@ mod up;
 
 pub use call::{has_body_at, target};
 pub use rows::{OwnedMethod, find_method, owned_method};
+pub use up::implementing;

@@ -3,3 +3,4 @@ pub mod Links
 pub mod Given
 pub mod Named
 pub mod Rules
+pub mod Given

@@ -1,0 +1,4 @@
+pub mod Elements
+pub mod Added
+pub mod OwnLinks
+pub mod RuleLaws

@@ -1,0 +1,10 @@
+use Rattle.std.proofs.Common.{sym, ap}
+use Rattle.member_search.specs.Shown.{Shown}
+use Rattle.class_table.specs.Seen.{method_seen}
+use Rattle.slot_links.proofs.fills.find_first.Goals as goal
+
+pub returns : goal.returns
+returns c =
+    λ file n.
+    let key = c.in_ok-key.ensures in
+    c.implementing.ensures (method_seen file n c.args.row.now) (record { name = sym (ap (λ (s : Shown). s.name) key); signature = sym (ap (λ (s : Shown). s.signature) key) })
