@@ -1,0 +1,4 @@
+pub mod CodeLaws
+pub mod RefLaws
+pub mod TokenLaws
+pub mod MethodLaws

@@ -1,0 +1,3 @@
+pub mod MoreLaws
+pub mod NameLaws
+pub mod RuleLaws
