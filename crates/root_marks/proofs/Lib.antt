@@ -1,0 +1,4 @@
+pub mod MarkLaws
+pub mod EntryLaws
+pub mod NameLaws
+pub mod RootLaws
