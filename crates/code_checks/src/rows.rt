@@ -4,7 +4,7 @@ use crate::stage::STAGE;
 use crate::text::{add_lines, bytes_of, column, columns_of, number_of};
 use assembly_rows::change::Change::Column;
 use assembly_rows::change::Value::More;
-use assembly_rows::change::changed;
+use assembly_rows::change::{Change, changed};
 use assembly_rows::made::{Asked, add};
 use base_lib::files;
 use cil_build::build::Build;
@@ -41,9 +41,19 @@ fn finished(alloc: Global, build: Build) -> Result<Vec<u8>, Fail> {
     Ok(build.finish(alloc).ok().ok_or("there is room")?)
 }
 
-/// The verdict on a file behind the base library.
-fn told_of(alloc: Global, file: Vec<u8>) -> Result<Verdict, Fail> {
+/// The base library's two files, the first of them changed.
+fn library_with(alloc: Global, changes: &[Change]) -> Result<Vec<Vec<u8>>, Fail> {
     let mut all = files(alloc)?;
+    let first = all.get_mut(0).ok_or("the library has two files")?;
+    for change in changes {
+        changed(first, change)?;
+    }
+    Ok(all)
+}
+
+/// The verdict on a file behind the base library, whose first file is changed.
+fn told_of(alloc: Global, changes: &[Change], file: Vec<u8>) -> Result<Verdict, Fail> {
+    let mut all = library_with(alloc, changes)?;
     all.push(file)?;
     if all.len() < 2 || all.len() > 1002 {
         None.ok_or("so few files")?
@@ -108,7 +118,11 @@ fn add_case(build: &mut Build, alloc: Global, columns: &[&str]) -> Result<(), Fa
 }
 
 /// The verdict on a line's method, and what the line wants.
-fn case_of(alloc: Global, columns: &[&str]) -> Result<(Verdict, Verdict), Fail> {
+fn case_of(
+    alloc: Global,
+    changes: &[Change],
+    columns: &[&str],
+) -> Result<(Verdict, Verdict), Fail> {
     let mut build = stage_of(alloc)?;
     add_case(&mut build, alloc, columns)?;
     let row = build.rows(METHOD_DEF);
@@ -121,7 +135,7 @@ fn case_of(alloc: Global, columns: &[&str]) -> Result<(Verdict, Verdict), Fail> 
     };
     changed(&mut file, &further)?;
     Ok((
-        told_of(alloc, file)?,
+        told_of(alloc, changes, file)?,
         wanted(METHOD_DEF, row, column(columns, 0))?,
     ))
 }
@@ -129,6 +143,15 @@ fn case_of(alloc: Global, columns: &[&str]) -> Result<(Verdict, Verdict), Fail> 
 /// Cases of a line each, in four columns: what is told, a name, and a method's signature and body in hex digits. A fifth tells how far
 /// behind its body's place the method's RVA is. Those of four columns that are accepted stand in one assembly.
 pub fn methods_are_told(rt: &(impl Abort + AllocGlobal), lines: &str) -> Result<(), Fail> {
+    methods_are_told_behind(rt, &[], lines)
+}
+
+/// The same behind a base library whose first file is changed.
+pub fn methods_are_told_behind(
+    rt: &(impl Abort + AllocGlobal),
+    changes: &[Change],
+    lines: &str,
+) -> Result<(), Fail> {
     let alloc = rt.alloc();
     let mut accepted = stage_of(alloc)?;
     for line in lines.lines() {
@@ -136,11 +159,11 @@ pub fn methods_are_told(rt: &(impl Abort + AllocGlobal), lines: &str) -> Result<
         if columns.len() == 4 && column(columns.as_slice(), 0) == "-" {
             add_case(&mut accepted, alloc, columns.as_slice())?;
         } else if columns.len() > 3 {
-            let (told, want) = case_of(alloc, columns.as_slice())?;
+            let (told, want) = case_of(alloc, changes, columns.as_slice())?;
             assert_eq!(rt; told, want, "{line}");
         }
     }
-    let told = told_of(alloc, finished(alloc, accepted)?)?;
+    let told = told_of(alloc, changes, finished(alloc, accepted)?)?;
     assert_eq!(rt;
         told,
         Verdict::Accepted,
@@ -158,7 +181,7 @@ pub fn types_are_told(rt: &(impl Abort + AllocGlobal), cases: &[Types]) -> Resul
         let mut build = stage_of(alloc)?;
         add_lines(&mut build, alloc, lines)?;
         let want = wanted(TYPE_DEF, *row, told)?;
-        let told = told_of(alloc, finished(alloc, build)?)?;
+        let told = told_of(alloc, &[], finished(alloc, build)?)?;
         assert_eq!(rt; told, want, "{name}");
     }
     Ok(())

@@ -1,6 +1,6 @@
 use Rattle.std.proofs.Common.{arith}
-use Rattle.cil_world.proofs.LibraryLaws.{size_more}
-use Rattle.cil_world.proofs.library.count_types.Goals as goal
+use Rattle.cil_world.proofs.CountLaws.{size_more}
+use Rattle.cil_world.proofs.counts.count_types.Goals as goal
 
 pub loop-file-preserved : goal.loop-file-preserved
 loop-file-preserved c =
