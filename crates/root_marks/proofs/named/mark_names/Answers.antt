@@ -4,7 +4,7 @@ use Rattle.class_table.specs.Seen.{classes_seen}
 use Rattle.kept_rules.specs.Row.{in_option}
 use Rattle.member_rules.specs.Members.{class_row}
 use Rattle.root_marks.proofs.MarkLaws.{texts_on, texts_end}
-use Rattle.root_marks.proofs.classes.mark_names.Goals as goal
+use Rattle.root_marks.proofs.named.mark_names.Goals as goal
 
 pub loop-name-preserved : goal.loop-name-preserved
 loop-name-preserved c =

@@ -3,7 +3,7 @@ use Rattle.assemblies.specs.Rows.{Assembly}
 use Rattle.class_table.specs.Seen.{classes_seen}
 use Rattle.row_numbers.specs.Tables.{AreCounts}
 use Rattle.root_marks.specs.Roots.{marked, rows_named}
-use Rattle.root_marks.proofs.classes.mark_names.Given as goal
+use Rattle.root_marks.proofs.named.mark_names.Given as goal
 
 abbrev pub invariant-loop-name : goal.invariant-loop-name
 invariant-loop-name l =
