@@ -1,13 +1,19 @@
 -- The phases one after another.
-use Rattle.std.proofs.Common.{◌≡◌, List, Option, Some, None, refl, sym, ap, ◌∙◌}
+use Rattle.std.proofs.Common.{◌≡◌, List, Option, Some, None, Result, refl, sym, ap, ◌∙◌}
+use Rattle.std.specs.Prelude.{IfOk}
+use Rattle.std.proofs.lemmas.Result.{IfOk-weaker}
 use Rattle.plain_types.specs.declared.fault.Fault.{Fault}
+use Rattle.plain_types.specs.declared.fault.NoMemory.{NoMemory}
 use Rattle.file_tables.specs.File.{FilePart}
+use Rattle.world_rows.specs.Read.{TypesStand}
 use Rattle.verdict_rules.specs.Order.{phase_fault}
 use Rattle.verdict_rules.specs.World.{World, world_of}
 use Rattle.verdict_rules.specs.Types.{type_rules}
 use Rattle.verdict_rules.specs.Code.{slot_rules, code_rules}
 use Rattle.verdict_rules.specs.Verdict.{member_rules, phases_fault, all_phases, profile, verdict_by, verdict}
 use Rattle.profile_order.proofs.OrderLaws.{after}
+use Rattle.judged_classes.specs.Judged.{IsJudged}
+use Rattle.cil_verify.specs.Seen.{PhasesTold}
 
 begun : (types members rest : Option Fault) (fault : Fault) → after types (after members None) ≡ Some fault → after types (after members rest) ≡ Some fault
 begun (Some found) members rest fault e = e
@@ -69,6 +75,12 @@ module _ (files : List FilePart) where
 
   pub code_last : profile files ≡ None → slots ≡ None → code ≡ phases_fault w (all_phases w)
   code_last e kept = sym (behind e ∙ ap (λ o. after o (after code None)) kept ∙ last code)
+
+  pub code_told : (result : Result (Option Fault) NoMemory) → TypesStand files → profile files ≡ None → slots ≡ None → IfOk result (λ fault. IsJudged files → fault ≡ code) → IfOk result (PhasesTold files)
+  code_told result stand e kept told =
+      IfOk-weaker result (λ fault. IsJudged files → fault ≡ code) (PhasesTold files)
+      (λ fault says. says (record { types = stand; profile = e; slots = kept }) ∙ code_last e kept)
+      told
 
   pub verdict_is : (o : Option Fault) → o ≡ phases_fault w (all_phases w) → verdict_by o ≡ verdict files
   unfolding verdict
