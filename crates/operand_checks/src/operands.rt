@@ -1,6 +1,6 @@
 //! Rule 46: what operands name (ECMA-335 III.3, III.4).
 
-use crate::rows::methods_are_told;
+use crate::told::methods_are_told;
 use std::test::Fail;
 
 /// Literals and methods.
