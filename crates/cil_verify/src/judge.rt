@@ -3,10 +3,9 @@
 ghost use Rattle.std.specs.Prelude.{◌≡◌, ℕ, true, false, List, IfOk};
 ghost use Rattle.file_tables.specs.File.{FilePart};
 ghost use Rattle.machine.specs.Trace.{is_stuck, trace};
-ghost use Rattle.world_rows.specs.World.{ecma_program, ecma_sources};
+ghost use Rattle.world_rows.specs.World.{ecma_program};
 ghost use Rattle.verdict_rules.specs.Verdict.{verdict};
 ghost use Rattle.base_rows.specs.Facts.{base};
-ghost use Rattle.judged_classes.specs.Judged.{names_known, arrays_abstract};
 ghost use Rattle.cil_verify.specs.Seen.{seen};
 
 use crate::outcome::Verdict;
@@ -21,10 +20,10 @@ use std::alloc::Global;
 /// rules of types, 20 to 26, then those of signatures and members, 27 to 30 (ECMA-335 II.22, II.23), then 31 of slots (II.12.2), and then
 /// those of code, 40 to 54 (II.25.4, III.1.7, III.1.8); a file's tables and rows in their order. Want of memory is the only error.
 ///
-/// It is exact of each world in which the library's class of each name that tells a type's kind is the first file's type of that name,
-/// nested in none, and System.Array is abstract: so they are in the base library. Behind it an accepted program never meets an instruction that has no case, for any number of steps and of cells.
+/// It is exact of each world. Behind the base library an accepted program never meets an instruction that has no case, for any number
+/// of steps and of cells.
 pub fn verdict(alloc: Global, world: &World<'_>) -> Result<Verdict, NoMemory>
-    ensures exact { IfOk result (λ v. names_known world.now ≡ true → arrays_abstract (ecma_sources world.now).classes ≡ true → seen v ≡ verdict world.now) }
+    ensures exact { IfOk result (λ v. seen v ≡ verdict world.now) }
     ensures sound { IfOk result (λ v. v ≡ Verdict.Accepted → (xs : List FilePart) → world.now ≡ base xs → (steps most : ℕ) → is_stuck (trace (ecma_program (base xs)) steps most).finish ≡ false) }
 {
     let _stand = world.files();

@@ -1,3 +1,3 @@
-pub mod LibraryLaws
+pub mod CountLaws
 pub mod FileLaws
 pub mod OpenedLaws

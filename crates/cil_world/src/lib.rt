@@ -1,7 +1,7 @@
 //! The world of assemblies: its files, what their tokens name, and what they say of classes (ECMA-335 II.22).
 #![tactic(auto)]
 
-mod library;
+mod counts;
 mod table;
 mod world;
 

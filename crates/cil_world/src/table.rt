@@ -6,8 +6,8 @@ ghost use Rattle.member_reading.specs.Natives.{AreNatives};
 ghost use Rattle.class_table.specs.Whole.{IsTable};
 ghost use Rattle.cil_world.specs.Members.{IsMembers, AreMembers};
 
-use crate::library::{count_types, find_library};
-use class_reading::read_classes;
+use crate::counts::count_types;
+use class_reading::{find_library, read_classes};
 use class_table::{ClassRow, ClassTable, FieldRow, FileRows, MethodRow};
 use member_reading::{NativeMember, Types, read_fields, read_layouts, read_methods, read_natives};
 use plain_types::fault::NoMemory;

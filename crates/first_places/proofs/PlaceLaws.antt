@@ -28,6 +28,14 @@ position_push test (x ∷ xs) y =
     ∙ join (test x) (test y) (position test xs) (length xs)
     ∙ ap (λ o. or_last o (test y) (suc (length xs))) (sym (position_step test x xs))
 
+pub position_same : {A : Type 0} (test test' : A → Bool) → ((x : A) → test x ≡ test' x) → (xs : List A) → position test xs ≡ position test' xs
+position_same test test' same [] = refl
+position_same test test' same (x ∷ xs) =
+    position_step test x xs
+    ∙ ap (λ b. cond b (Some 0) (option_map suc (position test xs))) (same x)
+    ∙ ap (λ o. cond (test' x) (Some 0) (option_map suc o)) (position_same test test' same xs)
+    ∙ sym (position_step test' x xs)
+
 -- the places of the keys behind some first ones are in a map
 abbrev pub FindsBehind : {K : Type 0} → (K → K → Ordering) → List K → List K → BTreeMap K ℕ → Type 0
 FindsBehind {K} cmp keys before places = (wanted : K) → option_or (position (eq_by_cmp cmp wanted) before) (get cmp places wanted) ≡ position (eq_by_cmp cmp wanted) keys

@@ -14,12 +14,13 @@ use Rattle.classes.specs.Queries.{basic_name, elements, some_eq}
 use Rattle.alike.proofs.Members.{id_same}
 use Rattle.kept_rows.proofs.SelectLaws.{position_step}
 use Rattle.assemblies.specs.Rows.{TypeRow, TypeRefRow, Nowhere, Assembly}
-use Rattle.assemblies.specs.Binding.{id_at, numbered, resolve, same_row, is_type, type_in}
+use Rattle.assemblies.specs.Binding.{id_at, numbered, resolve, same_row, is_type}
 use Rattle.assemblies.proofs.Numbered.{get_numbered}
 use Rattle.world_rows.specs.Tokens.{type_defs}
 use Rattle.world_rows.specs.Rows.{type_row, alone}
-use Rattle.world_rows.specs.Kinds.{system_type, is_class_of, type_at, enum_element, number_of, derived_kind, kind_by, kind_of, size_by}
+use Rattle.world_rows.specs.Kinds.{library_type, is_class_of, type_at, enum_element, number_of, derived_kind, kind_by, kind_of, size_by}
 use Rattle.world_rows.specs.World.{assembly_with, rows_alone, assemblies_of}
+use Rattle.world_rows.proofs.Library.{type_there}
 use Rattle.alike.proofs.Lists.{position_map}
 use Rattle.assemblies.proofs.Back.{get_there}
 use Rattle.machine.specs.Texts.{same_text}
@@ -125,20 +126,6 @@ module _ (files : List FilePart) where
 
   -- ---- a class that is not there
 
-  type_found : (file : ℕ) (outer : Option ℕ) (r : TypeRefRow) (d : Id) → type_in ps file outer r ≡ Some d → (t : TypeRow) × (type_at ps d ≡ Some t)
-  type_found file outer r d e = by (slice_get ps file) refl e
-    where
-      place : (p : Assembly) → slice_get ps file ≡ Some p → (o : Option ℕ) → position (is_type outer r) p.types ≡ o → option_map (id_at file) o ≡ Some d → (t : TypeRow) × (type_at ps d ≡ Some t)
-      place p here None at h = absurd (cc h)
-      place p here (Some i) at h =
-          let w = found_within (is_type outer r) p.types i at in
-          let same : id_at file i ≡ d = cc h in
-          (w.0, ap (type_at ps) (sym same) ∙ (ap (λ o. on_some o (λ (q : Assembly). slice_get q.types i)) here ∙ w.1))
-
-      by : (o : Option Assembly) → slice_get ps file ≡ o → on_some o (λ p. option_map (id_at file) (position (is_type outer r) p.types)) ≡ Some d → (t : TypeRow) × (type_at ps d ≡ Some t)
-      by None here h = absurd (cc h)
-      by (Some p) here h = place p here (position (is_type outer r) p.types) refl h
-
   module _ (c : Id) (absent : type_at ps c ≡ None) where
     other : (o : Option Id) → ((d : Id) → o ≡ Some d → (t : TypeRow) × (type_at ps d ≡ Some t)) → some_eq (Some c) o ≡ false
     other None found = refl
@@ -151,14 +138,14 @@ module _ (files : List FilePart) where
     no_class_of : (e : Elem) → is_class_of ps c e ≡ false
     no_class_of e = by (basic_name e)
       where
-        by : (o : Option (List ℕ)) → some_eq (Some c) (on_some o (system_type ps)) ≡ false
+        by : (o : Option (List ℕ)) → some_eq (Some c) (on_some o (library_type ps)) ≡ false
         by None = refl
-        by (Some name) = other (system_type ps name) (λ d h. type_found 0 None (record { scope = Nowhere; namespace = codes "System"; name = name }) d h)
+        by (Some name) = other (library_type ps name) (λ d h. let t = type_there ps name d h in (t.0, t.1))
 
     abbrev derived_by : Option Id → TypeKind
     derived_by s =
-        if some_eq s (system_type ps (codes "Enum")) then Enumeration (enum_element (number_of ps c))
-        else if some_eq s (system_type ps (codes "Enum")) || (some_eq s (system_type ps (codes "ValueType")) && not (some_eq (Some c) (system_type ps (codes "Enum")))) then OtherValue
+        if some_eq s (library_type ps (codes "Enum")) then Enumeration (enum_element (number_of ps c))
+        else if some_eq s (library_type ps (codes "Enum")) || (some_eq s (library_type ps (codes "ValueType")) && not (some_eq (Some c) (library_type ps (codes "Enum")))) then OtherValue
         else Reference
 
     pub kind_absent : kind_of k ps c ≡ Reference

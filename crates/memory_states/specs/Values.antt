@@ -1,37 +1,18 @@
 -- Types, values and objects of a memory as the machine's.
-use Rattle.std.specs.Prelude.{◌≡◌, ℕ, zero, suc, pos, ◌+◌, ◌==◌, if◌then◌else◌, List, [], ◌∷◌, map, length, Option, Some, None, slice_index}
-use Rattle.plain_types.specs.declared.elem.Elem.{Elem}
-use Rattle.plain_types.specs.declared.elem.Elem.TheVariants as elem
+use Rattle.std.specs.Prelude.{◌≡◌, ℕ, pos, ◌+◌, List, [], ◌∷◌, map, length, Option, Some, None, slice_index}
 use Rattle.board_types.specs.declared.board.TypeAt.{TypeAt}
 use Rattle.board_types.specs.declared.board.BoardType.{BoardType}
-use Rattle.board_types.specs.declared.board.TheConstants.{NO_ROW}
 use Rattle.board_types.specs.declared.value.RamPlace.{RamPlace}
 use Rattle.board_types.specs.declared.value.Value.{Value as RamValue}
 use Rattle.board_types.specs.declared.value.Value.TheVariants as ram
-use Rattle.machine.specs.Data.{Id, CliType, Basic, EnumOf, ClassOf, ValueOf, ArrayOf, Spot, InArgument, InLocal, InObject, Value, Int, Long, Null, Object, Handle, Pointer, Thing, Instance, Text, Elements, Boxed, StaticCell}
+pub use Rattle.board_ids.specs.Ids.{id_of, plain_type, in_brackets, cli_type}
+use Rattle.machine.specs.Data.{Id, CliType, Spot, InArgument, InLocal, InObject, Value, Int, Long, Null, Object, Handle, Pointer, Thing, Instance, Text, Elements, Boxed, StaticCell}
 use Rattle.machine.specs.Program.{Program}
 use Rattle.machine.specs.Numbers.{zero_of}
 use Rattle.ram_words.specs.Elements.{elem_held}
 use Rattle.ram_words.specs.Headers.{static_shape}
 use Rattle.tiny_ram.specs.Things.{Entry, object_shape, array_shape, string_shape, box_shape}
 use Rattle.tiny_ram.specs.Memory.{RamFrame, frame_at}
-
--- ---- types
-
-abbrev pub id_of : TypeAt → Id
-id_of t = record { file = t.assembly; row = t.row }
-
-abbrev pub plain_type : Elem → TypeAt → CliType
-plain_type elem.Class of = ClassOf (id_of of)
-plain_type elem.Value of = ValueOf (id_of of)
-plain_type e of = if of.row == NO_ROW then Basic e else EnumOf e (id_of of)
-
-abbrev pub in_brackets : ℕ → CliType → CliType
-in_brackets zero type = type
-in_brackets (suc n) type = ArrayOf (in_brackets n type)
-
-abbrev pub cli_type : BoardType → CliType
-cli_type type = in_brackets type.ranks (plain_type type.elem type.of)
 
 -- ---- values
 

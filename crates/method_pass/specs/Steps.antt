@@ -10,6 +10,7 @@ use Rattle.file_tables.specs.File.{FilePart}
 use Rattle.machine.specs.Data.{ClassOf}
 use Rattle.machine.specs.Program.{Method}
 use Rattle.classes.specs.Clauses.{is_proper}
+use Rattle.classes.specs.Queries.{array}
 use Rattle.world_rows.specs.World.{ecma_sources}
 use Rattle.code_rules.specs.Pass.{Step}
 use Rattle.code_places.specs.Among.{is_among}
@@ -30,7 +31,7 @@ use Rattle.method_pass.specs.declared.method.MethodSteps.{MethodSteps}
 abbrev pub AreKnown : List FilePart → ℕ → FilePart → Type 0
 AreKnown files file x =
     (code : List ℕ) (at next : ℕ) (kind : Kind) (n : ℤ) (known : Operand)
-    → OperandTold (ecma_sources files).classes (operand_of files file x code at next kind n) known → IsOperand (ecma_sources files).classes (operand_of files file x code at next kind n) known
+    → OperandTold (ecma_sources files).classes (array (ecma_sources files).classes) (operand_of files file x code at next kind n) known → IsOperand (ecma_sources files).classes (operand_of files file x code at next kind n) known
 
 pub record AreSteps (s : MethodSteps) (listed : List Step) : Type 0 where
   pub part : FilePart

@@ -6,6 +6,8 @@ ghost use Rattle.cil_opcodes.specs.Rows.{row_of};
 ghost use Rattle.cil_code.specs.Instructions.{instruction_at};
 ghost use Rattle.file_tables.specs.File.{FilePart};
 ghost use Rattle.machine.specs.Data.{ClassOf};
+ghost use Rattle.classes.specs.Queries.{array};
+ghost use Rattle.class_table.specs.Seen.{classes_seen};
 ghost use Rattle.world_rows.specs.World.{ecma_sources};
 ghost use Rattle.operand_facts.specs.Operands.{OperandTold};
 ghost use Rattle.ecma_effects.specs.Known.{IsKnown};
@@ -32,13 +34,14 @@ fn operand<'s>(
     scratch: &'s mut Vec<PlaceType>,
 ) -> Result<Operand<'s>, NoMemory>
     requires { instruction_at steps.now.listing.now.code at ≡ Ok instr.now }
-    ensures { IfOk result (λ known. (row : Row) (x : FilePart) → row_of instr.now.op ≡ Some row → row.operand ≡ kind → slice_get steps.now.world.now steps.now.file ≡ Some x → OperandTold (ecma_sources steps.now.world.now).classes (operand_meant (world_of steps.now.world.now) steps.now.file x steps.now.listing.now (record { at = at; instr = instr.now }) row) known) }
+    ensures { IfOk result (λ known. (row : Row) (x : FilePart) → row_of instr.now.op ≡ Some row → row.operand ≡ kind → slice_get steps.now.world.now steps.now.file ≡ Some x → OperandTold (ecma_sources steps.now.world.now).classes (array (classes_seen steps.now.lattice.now)) (operand_meant (world_of steps.now.world.now) steps.now.file x steps.now.listing.now (record { at = at; instr = instr.now }) row) known) }
 {
     if steps.file >= steps.world.files() {
         return Ok(Operand::Unresolved);
     }
     let token = token(steps.listing, at, instr);
-    read_operand(steps.world, steps.file, kind, token, scratch)
+    let array = steps.lattice.array();
+    read_operand(steps.world, array, steps.file, kind, token, scratch)
 }
 
 /// What is known of the instruction at an offset. The types of the parameters of a method that it names are written into `scratch`.

@@ -12,11 +12,7 @@ use Rattle.base_tables.specs.Tables.{mscorlib_items}
 use Rattle.base_lib.specs.Files.{library_of}
 use Rattle.base_rows.specs.Base.{library_file, native_file}
 use Rattle.type_names.specs.Opening.{joined, opened_from, files_opened}
-use Rattle.world_rows.specs.World.{ecma_sources}
 use Rattle.verdict_rules.specs.Verdict.{verdict}
-use Rattle.judged_classes.specs.Judged.{arrays_abstract, names_known}
-use Rattle.judged_classes.proofs.JudgedLaws.{base_named}
-use Rattle.judged_classes.proofs.BaseArrays.{base_arrays}
 use Rattle.cil_verify.specs.declared.outcome.Verdict.{Verdict}
 use Rattle.cil_verify.specs.Seen.{seen}
 use Rattle.mf_front.specs.declared.outcome.Outcome.{Outcome}
@@ -57,7 +53,6 @@ opened_behind bytes rest files behind opens =
     ∙ (sym (ap files_opened behind) ∙ opens)))
 
 -- the verdict on them is exact
-pub told_exactly : (files : List (List ℕ)) (all : List FilePart) (found : Verdict) (outcome : Outcome) → IsBased all → (names_known all ≡ true → arrays_abstract (ecma_sources all).classes ≡ true → seen found ≡ verdict all) → (outcome ≡ judged_of files all (seen found)) ⊎ (outcome ≡ NoMemory) → (outcome ≡ judged_of files all (verdict all)) ⊎ (outcome ≡ NoMemory)
-told_exactly files all found outcome b says (inl told) =
-    inl (told ∙ ap (judged_of files all) (says (subst (λ fs. names_known fs ≡ true) (sym b.1) (base_named b.0)) (subst (λ fs. arrays_abstract (ecma_sources fs).classes ≡ true) (sym b.1) (base_arrays b.0))))
-told_exactly files all found outcome b says (inr none) = inr none
+pub told_exactly : (files : List (List ℕ)) (all : List FilePart) (found : Verdict) (outcome : Outcome) → seen found ≡ verdict all → (outcome ≡ judged_of files all (seen found)) ⊎ (outcome ≡ NoMemory) → (outcome ≡ judged_of files all (verdict all)) ⊎ (outcome ≡ NoMemory)
+told_exactly files all found outcome says (inl told) = inl (told ∙ ap (judged_of files all) says)
+told_exactly files all found outcome says (inr none) = inr none

@@ -1,6 +1,6 @@
 //! Rule 46: what operands name (ECMA-335 III.3, III.4).
 
-use crate::told::methods_are_told;
+use crate::told::{methods_are_told, methods_are_told_behind};
 use std::test::Fail;
 
 /// Literals and methods.
@@ -65,6 +65,21 @@ const METHODS_NAMED: &str = "
 #[test]
 fn methods_named(rt: HostRuntime) -> Result<(), Fail> {
     methods_are_told(&rt, METHODS_NAMED)
+}
+
+/// The library's System.Array, its fifth type, without the flag of abstract types (II.23.1.15).
+const PLAIN_ARRAY: &str = "is | 02 | 5 | 0 | 00100001";
+
+/// Behind such a library no object is made of System.Array either, and of others as behind any.
+const BEHIND_PLAIN_ARRAY: &str = "
+46 0 | newobj of Array | 00 00 01 | 1E 73 12 00 00 0A 26 2A
+46 0 | newobj of String | 00 00 01 | 1E 73 05 00 00 0A 26 2A
+- | newobj of Object | 00 00 01 | 1E 73 01 00 00 0A 26 2A
+";
+
+#[test]
+fn arrays_that_are_not_abstract(rt: HostRuntime) -> Result<(), Fail> {
+    methods_are_told_behind(&rt, PLAIN_ARRAY, BEHIND_PLAIN_ARRAY)
 }
 
 /// Fields of objects.

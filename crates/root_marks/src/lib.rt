@@ -1,9 +1,9 @@
 //! The rows that are kept of any program, as marks over the numbers of rows.
 #![tactic(auto)]
 
-mod classes;
 mod entries;
 pub mod law;
 mod marks;
+mod named;
 
 pub use marks::mark_roots;

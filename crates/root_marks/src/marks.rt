@@ -8,8 +8,8 @@ ghost use Rattle.class_table.specs.Seen.{classes_seen};
 ghost use Rattle.class_queries.specs.Numbers.{total_of};
 ghost use Rattle.root_marks.specs.Roots.{marked, root_rows};
 
-use crate::classes::mark_classes;
 use crate::entries::mark_entries;
+use crate::named::mark_classes;
 use cil_world::World;
 use class_table::ClassTable;
 use plain_types::fault::NoMemory;

@@ -4,7 +4,7 @@ use crate::stage::STAGE;
 use assembly_rows::change::Change::Column;
 use assembly_rows::change::Value::More;
 use assembly_rows::change::changed;
-use assembly_rows::lines::{add_lines, add_rows};
+use assembly_rows::lines::{add_lines, add_rows, change_file};
 use assembly_rows::made::{Asked, add};
 use base_lib::files;
 use case_text::{Line, lines_of};
@@ -49,9 +49,17 @@ fn finished(alloc: Global, build: Build) -> Result<Vec<u8>, Fail> {
     Ok(build.finish(alloc).ok().ok_or("there is room")?)
 }
 
-/// The verdict on a file behind the base library.
-fn told_of(alloc: Global, file: Vec<u8>) -> Result<Verdict, Fail> {
+/// The base library's two files, the first of them changed.
+fn library_with(alloc: Global, changes: &str) -> Result<Vec<Vec<u8>>, Fail> {
     let mut all = files(alloc)?;
+    let first = all.get_mut(0).ok_or("the library has two files")?;
+    change_file(first, alloc, changes)?;
+    Ok(all)
+}
+
+/// The verdict on a file behind the base library, whose first file is changed.
+fn told_of(alloc: Global, changes: &str, file: Vec<u8>) -> Result<Verdict, Fail> {
+    let mut all = library_with(alloc, changes)?;
     all.push(file)?;
     if all.len() < 2 || all.len() > 1002 {
         None.ok_or("so few files")?
@@ -115,7 +123,7 @@ fn add_method(build: &mut Build, alloc: Global, line: &Line<'_>) -> Result<(), F
 }
 
 /// The case of a line's method.
-fn method_told<'a>(alloc: Global, line: &Line<'a>) -> Result<Case<'a>, Fail> {
+fn method_told<'a>(alloc: Global, changes: &str, line: &Line<'a>) -> Result<Case<'a>, Fail> {
     let mut build = stage_of(alloc)?;
     add_method(&mut build, alloc, line)?;
     let row = build.rows(METHOD_DEF);
@@ -129,7 +137,7 @@ fn method_told<'a>(alloc: Global, line: &Line<'a>) -> Result<Case<'a>, Fail> {
     changed(&mut file, &further)?;
     Ok(Case {
         name: line.text(1),
-        told: told_of(alloc, file)?,
+        told: told_of(alloc, changes, file)?,
         wanted: wanted(alloc, METHOD_DEF, row, line)?,
     })
 }
@@ -138,6 +146,15 @@ fn method_told<'a>(alloc: Global, line: &Line<'a>) -> Result<Case<'a>, Fail> {
 /// fifth tells how far behind its body's place the method's RVA is. Those of four columns that are accepted stand in one assembly, which
 /// is the last case.
 pub fn methods_told<'a>(alloc: Global, text: &'a str) -> Result<Vec<Case<'a>>, Fail> {
+    methods_told_behind(alloc, "", text)
+}
+
+/// The same behind a base library whose first file is changed.
+pub fn methods_told_behind<'a>(
+    alloc: Global,
+    changes: &str,
+    text: &'a str,
+) -> Result<Vec<Case<'a>>, Fail> {
     let mut accepted = stage_of(alloc)?;
     let mut cases = Vec::new(alloc);
     let lines = lines_of(alloc, text, '|')?;
@@ -145,12 +162,12 @@ pub fn methods_told<'a>(alloc: Global, text: &'a str) -> Result<Vec<Case<'a>>, F
         if line.text(0) == "-" && line.text(4) == "" {
             add_method(&mut accepted, alloc, line)?;
         } else {
-            cases.push(method_told(alloc, line)?)?;
+            cases.push(method_told(alloc, changes, line)?)?;
         }
     }
     cases.push(Case {
         name: "the accepted lines, by their methods behind the stage's",
-        told: told_of(alloc, finished(alloc, accepted)?)?,
+        told: told_of(alloc, changes, finished(alloc, accepted)?)?,
         wanted: Verdict::Accepted,
     })?;
     Ok(cases)
@@ -162,7 +179,7 @@ fn type_told<'a>(alloc: Global, line: &Line<'a>) -> Result<Case<'a>, Fail> {
     add_rows(&mut build, alloc, line.text(3))?;
     Ok(Case {
         name: line.text(1),
-        told: told_of(alloc, finished(alloc, build)?)?,
+        told: told_of(alloc, "", finished(alloc, build)?)?,
         wanted: wanted(alloc, TYPE_DEF, line.number(2)?, line)?,
     })
 }

@@ -5,4 +5,4 @@
 mod cases;
 mod stage;
 
-pub use cases::{Case, methods_told, types_told};
+pub use cases::{Case, methods_told, methods_told_behind, types_told};

@@ -1,6 +1,8 @@
 use Rattle.std.proofs.Common.{◌<◌, ℕ, ◌+◌, length, sym, ap, subst, ◌∙◌, arith}
 use Rattle.std.proofs.lemmas.Option.{slice_get_within}
 use Rattle.forward_pass.proofs.EdgeLaws.{if_ok}
+use Rattle.classes.specs.Queries.{array}
+use Rattle.class_table.specs.Seen.{classes_seen}
 use Rattle.world_rows.specs.World.{ecma_sources}
 use Rattle.operand_facts.specs.Operands.{OperandTold, operand_of}
 use Rattle.step_facts.specs.Parts.{is_token}
@@ -25,5 +27,6 @@ returns c =
     let code = c.args.steps.now.listing.now.code in
     let instr = c.args.instr.now in
     let next : ℕ = c.args.at + instr.length in
-    subst (λ z. OperandTold (ecma_sources files).classes (operand_of files file x code c.args.at next z instr.operand) known) (sym kind)
-    (by_token (ecma_sources files).classes files file x code c.args.at next known c.args.kind instr.operand c.token-token.result (λ is. c.token-token.ensures row listed (ap is_token kind ∙ is)) (λ k e. says x code c.args.at next k there e)))
+    let arrays = array (classes_seen c.args.steps.now.lattice.now) in
+    subst (λ z. OperandTold (ecma_sources files).classes arrays (operand_of files file x code c.args.at next z instr.operand) known) (sym kind)
+    (by_token (ecma_sources files).classes arrays files file x code c.args.at next known c.args.kind instr.operand c.token-token.result (λ is. c.token-token.ensures row listed (ap is_token kind ∙ is)) (λ k e. subst (λ o. OperandTold (ecma_sources files).classes o (operand_of files file x code c.args.at next c.args.kind k) known) c.array-array.ensures (says x code c.args.at next k there e))))

@@ -1,0 +1,2 @@
+//! The rows and types of a board as those of the machine.
+#![tactic(auto)]

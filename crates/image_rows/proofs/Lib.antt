@@ -1,0 +1,2 @@
+mod ScopeLaws
+mod SelectLaws

@@ -1,0 +1,7 @@
+use Rattle.std.proofs.Common.{◌≡◌, map, take}
+use Rattle.kept_rows.specs.Select.{select}
+use Rattle.kept_marks.specs.Masks.{masks_of}
+use Rattle.image_rows.proofs.table.kept_parts.Given as goal
+
+abbrev pub invariant-loop-n : goal.invariant-loop-n
+invariant-loop-n g l = l.out.items ≡ map (g.T.TableParts.part l.of) (select (masks_of l.choice l.table) (take l.n (g.T.TableParts.rows l.of)))

@@ -1,0 +1,19 @@
+use Rattle.std.proofs.Common.{◌≡◌, ◌++◌, subst, OnOk}
+use Rattle.cil_sig.specs.declared.sig.SigFault.TheVariants.{Bad}
+use Rattle.image_signatures.specs.Spelt.{locals_read_spelt}
+use Rattle.image_signatures.proofs.SpellLaws.{locals_read, locals_faulty}
+use Rattle.kept_marks.specs.Masks.{masks_of}
+use Rattle.image_signatures.proofs.signatures.push_locals.Goals as goal
+
+pub returns-in-Ok : goal.returns-in-Ok
+returns-in-Ok c =
+    subst (λ bs. OnOk c.push_locals_read.result (c.push_locals_read.new.out.items ≡ c.args.out.now.items ++ bs))
+    (locals_read (masks_of c.args.choice.now) c.args.tables.now c.args.blob.now c.in-Ok.types c.in-Ok.ensures.exact)
+    (subst (λ ts. OnOk c.push_locals_read.result (c.push_locals_read.new.out.items ≡ c.args.out.now.items ++ locals_read_spelt (masks_of c.args.choice.now) c.args.tables.now ts)) c.as_slice.ensures c.push_locals_read.ensures)
+
+pub returns-in-Err-Bad : goal.returns-in-Err-Bad
+returns-in-Err-Bad c =
+    let same : c.in-Err-Bad.field-0 ≡ Bad c.in-Err-Bad.field-0-0 = cc c.in-Err-Bad.field-0-is in
+    subst (λ bs. OnOk c.push_word.result (c.push_word.new.out.items ≡ c.args.out.now.items ++ bs))
+    (locals_faulty (masks_of c.args.choice.now) c.args.tables.now c.args.blob.now c.in-Err-Bad.field-0 c.in-Err-Bad.field-0-0 same c.in-Err-Bad.ensures.exact)
+    c.push_word.ensures
