@@ -1,10 +1,8 @@
-//! Assemblies made of rows.
+//! Rows that are asked of the builder.
 
-use crate::change::{Change, changed};
 use cil_build::build::{Build, BuildRefusal};
 use cil_build::refs::RefRow;
 use cil_layout::rows::{FIELD, METHOD_DEF, TYPE_DEF};
-use plain_types::fault::Failed;
 use std::alloc::Global;
 
 /// A row that is asked of the builder.
@@ -30,15 +28,6 @@ pub enum Asked<'a> {
         body: &'a [u8],
     },
     Other(RefRow<'a>),
-}
-
-/// An assembly: its rows, the token of its entry method, and what is changed in its bytes.
-#[derive(Clone, Copy)]
-pub struct Assembly<'a> {
-    pub name: &'a str,
-    pub entry: u32,
-    pub rows: &'a [Asked<'a>],
-    pub changes: &'a [Change],
 }
 
 /// Adds a row, and gives its token.
@@ -75,33 +64,4 @@ fn add_other(b: &mut Build, alloc: Global, row: &RefRow<'_>) -> Result<u32, Buil
         return Err(BuildRefusal::Full);
     }
     Ok(b.add_ref(alloc, row)?)
-}
-
-fn built(
-    alloc: Global,
-    front: &[Asked<'_>],
-    assembly: &Assembly<'_>,
-) -> Result<Vec<u8>, BuildRefusal> {
-    let mut b = Build::new(alloc, assembly.name, [1, 0, 0, 0])?;
-    for row in front {
-        let _token = add(&mut b, alloc, row)?;
-    }
-    for row in assembly.rows {
-        let _token = add(&mut b, alloc, row)?;
-    }
-    b.set_entry(assembly.entry);
-    b.finish(alloc)
-}
-
-/// The bytes of an assembly, whose first rows are those of `front`.
-pub fn made(
-    alloc: Global,
-    front: &[Asked<'_>],
-    assembly: &Assembly<'_>,
-) -> Result<Vec<u8>, Failed> {
-    let mut file = built(alloc, front, assembly).ok().ok_or(Failed)?;
-    for change in assembly.changes {
-        changed(&mut file, change)?;
-    }
-    Ok(file)
 }

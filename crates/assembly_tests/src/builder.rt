@@ -1,6 +1,6 @@
+use assembly_rows::lines::add_lines;
 use cil_build::build::{Build, BuildRefusal};
-use cil_build::refs::RefRow;
-use cil_layout::rows::{FIELD, METHOD_DEF, TABLES, TYPE_DEF};
+use cil_layout::rows::TABLES;
 use cil_listing::assembly::{open, text};
 use cil_listing::members::listing;
 use cil_rows::{ClassLayoutRow, FieldRvaRow, MemberRefRow, NestedClassRow, find_row};
@@ -9,103 +9,32 @@ use plain_types::fault::NoMemory;
 use std::alloc::Global;
 use std::test::Fail;
 
-fn add(b: &mut Build, alloc: Global, row: &RefRow<'_>) -> Result<u32, BuildRefusal> {
-    if !b.has_room(row.table()) {
-        return Err(BuildRefusal::Full);
-    }
-    Ok(b.add_ref(alloc, row)?)
-}
-
-fn add_class(b: &mut Build, alloc: Global, name: &str, extends: u32) -> Result<u32, BuildRefusal> {
-    if !b.has_room(TYPE_DEF) {
-        return Err(BuildRefusal::Full);
-    }
-    Ok(b.add_type(alloc, 0x0010_0001, "Ns", name, extends)?)
-}
-
-/// A field with data.
-fn add_data(b: &mut Build, alloc: Global) -> Result<(), BuildRefusal> {
-    if !b.has_room(FIELD) {
-        return Err(BuildRefusal::Full);
-    }
-    let _data = b.add_field(alloc, 0x0116, "data", &[0x06, 0x08], &[1, 2, 3, 4])?;
-    Ok(())
-}
-
-/// The entry method.
-fn add_main(b: &mut Build, alloc: Global) -> Result<(), BuildRefusal> {
-    if !b.has_room(METHOD_DEF) {
-        return Err(BuildRefusal::Full);
-    }
-    let main = b.add_method(alloc, 0, 0x0096, "Main", &[0, 0, 0x01], &[0x06, 0x2A])?;
-    b.set_entry(main);
-    Ok(())
-}
-
-/// References to Object and its ToString, and the signatures of an array and of locals.
-fn add_references(b: &mut Build, alloc: Global) -> Result<u32, BuildRefusal> {
-    let scope = RefRow::Assembly {
-        name: "mscorlib",
-        version: [4, 3, 1, 0],
-    };
-    let scope = add(b, alloc, &scope)?;
-    let object = RefRow::TypeOf {
-        scope,
-        namespace: "System",
-        name: "Object",
-    };
-    let object = add(b, alloc, &object)?;
-    let text = RefRow::Member {
-        parent: object,
-        name: "ToString",
-        sig: &[0x20, 0, 0x0E],
-    };
-    let _text = add(b, alloc, &text)?;
-    let _array = add(b, alloc, &RefRow::Spec { sig: &[0x1D, 0x08] })?;
-    let _locals = add(
-        b,
-        alloc,
-        &RefRow::Locals {
-            sig: &[0x07, 1, 0x08],
-        },
-    )?;
-    Ok(object)
-}
+/// One row of each kind, and data.
+const EVERY_KIND: &str = "
+assembly | | | mscorlib | 04 03 01 00
+reference | 23000001 | | System Object
+member | 01000001 | | ToString | 20 00 0E
+spec | | | | 1D 08
+locals | | | | 07 01 08
+type | 00100001 | 01000001 | Ns Outer
+field | 0116 | | data | 06 08 | 01 02 03 04
+method | 0096 | | Main | 00 00 01 | 06 2A
+type | 00100001 | 01000001 | Ns Inner
+interface | 02000002 | 02000003
+nested | 02000003 | 02000002
+layout | 4 | 02000003
+";
 
 /// One row of each kind, data, a literal and an entry.
-fn every_kind(alloc: Global) -> Result<Vec<u8>, BuildRefusal> {
-    let mut b = Build::new(alloc, "All", [1, 2, 3, 4])?;
-    let object = add_references(&mut b, alloc)?;
-    let outer = add_class(&mut b, alloc, "Outer", object)?;
-    add_data(&mut b, alloc)?;
-    add_main(&mut b, alloc)?;
-    let inner = add_class(&mut b, alloc, "Inner", object)?;
-    let _face = add(
-        &mut b,
-        alloc,
-        &RefRow::Interface {
-            class: outer,
-            interface: inner,
-        },
-    )?;
-    let _nested = add(
-        &mut b,
-        alloc,
-        &RefRow::Nested {
-            nested: inner,
-            enclosing: outer,
-        },
-    )?;
-    let _layout = add(
-        &mut b,
-        alloc,
-        &RefRow::Layout {
-            size: 4,
-            class: inner,
-        },
-    )?;
-    let _literal = b.user_text(alloc, &[0x68, 0x69])?;
-    b.finish(alloc)
+fn every_kind(alloc: Global) -> Result<Vec<u8>, Fail> {
+    let mut build = Build::new(alloc, "All", [1, 2, 3, 4])?;
+    add_lines(&mut build, alloc, EVERY_KIND)?;
+    let _literal = build
+        .user_text(alloc, &[0x68, 0x69])
+        .ok()
+        .ok_or("there is room")?;
+    build.set_entry(0x0600_0001);
+    Ok(build.finish(alloc).ok().ok_or("there is room")?)
 }
 
 /// How many rows each table has that the builder makes.
@@ -120,7 +49,7 @@ fn is_literal(tables: &Tables<'_>, place: u32, bytes: &[u8]) -> bool {
 
 #[test]
 fn every_kind_of_row_is_read_back(rt: HostRuntime) -> Result<(), Fail> {
-    let file = every_kind(rt.alloc()).ok().ok_or("it is made")?;
+    let file = every_kind(rt.alloc())?;
     let assembly = open(file.as_slice()).ok().ok_or("no rule is broken")?;
     let tables = &assembly.tables;
     assert_eq!(rt; counts(tables), [1, 1, 3, 1, 1, 1, 1, 1, 1, 1, 1, 1, 1, 1]);
@@ -137,7 +66,7 @@ fn every_kind_of_row_is_read_back(rt: HostRuntime) -> Result<(), Fail> {
 
 #[test]
 fn data_and_references_are_read_back(rt: HostRuntime) -> Result<(), Fail> {
-    let file = every_kind(rt.alloc()).ok().ok_or("it is made")?;
+    let file = every_kind(rt.alloc())?;
     let assembly = open(file.as_slice()).ok().ok_or("no rule is broken")?;
     let tables = &assembly.tables;
     let data = find_row::<FieldRvaRow>(tables, 1).ok_or("there is a row of data")?;

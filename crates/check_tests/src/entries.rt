@@ -1,131 +1,44 @@
 //! Rule 23: the entry (ECMA-335 II.15.4.1.2, II.25.3.3).
 
-use crate::program::{A, FRONT, MAIN, OBJECT, PROGRAM, class, method, row};
-use crate::rows::{Told, fault};
-use crate::told::told_of;
-use assembly_rows::change::Change;
-use assembly_rows::change::Change::Column;
-use assembly_rows::change::Value::Is;
-use assembly_rows::made::{Asked, Assembly};
-use plain_types::fault::Fault;
+use crate::cases::cases_are_told;
 use std::test::Fail;
 
-/// A name, rows behind the program, changes, the entry token, and whether it is refused.
-type Entry = (
-    &'static str,
-    &'static [Asked<'static>],
-    &'static [Change],
-    u32,
-    bool,
-);
-
-/// The second method of the program.
-const SECOND: u32 = 0x0600_0002;
-
-#[rattlefmt::skip]
-const ENTRIES: [Entry; 31] = [
-    ("Main", &[], &[], MAIN, false),
-    ("none", &[], &[], 0, true),
-    ("a reference to a method", &[row!(Member { parent: PROGRAM, name: "Main", sig: &[0, 0, 0x01] })], &[], 0x0A00_0001, true),
-    ("a type", &[], &[], PROGRAM, true),
-    ("a file", &[], &[], 0x2600_0001, true),
-    ("a literal", &[], &[], 0x7000_0001, true),
-    ("a number without table", &[], &[], 1, true),
-    ("method 0", &[], &[], 0x0600_0000, true),
-    ("a method behind the last", &[], &[], SECOND, true),
-    ("the last of all methods", &[], &[], 0x06FF_FFFF, true),
-    ("another name", &[method!(0x96, "Start", &[0, 0, 0x01])], &[], SECOND, false),
-    ("a private method", &[method!(0x91, "Start", &[0, 0, 0x01])], &[], SECOND, false),
-    ("an instance method", &[method!(0x86, "Start", &[0x20, 0, 0x01])], &[], SECOND, true),
-    ("an abstract method", &[class!(0x81, "A", OBJECT), method!(0x5C6, "Start", &[0x20, 0, 0x01], &[])], &[], SECOND, true),
-    ("a static method with this", &[method!(0x96, "Start", &[0x20, 0, 0x01])], &[], SECOND, true),
-    ("an int", &[method!(0x96, "Start", &[0, 0, 0x08])], &[], SECOND, false),
-    ("an int by its name", &[method!(0x96, "Start", &[0, 0, 0x11, 0x25])], &[], SECOND, false),
-    ("an unsigned number", &[method!(0x96, "Start", &[0, 0, 0x09])], &[], SECOND, true),
-    ("a long", &[method!(0x96, "Start", &[0, 0, 0x0A])], &[], SECOND, true),
-    ("a text", &[method!(0x96, "Start", &[0, 0, 0x0E])], &[], SECOND, true),
-    ("words", &[method!(0x96, "Start", &[0, 1, 0x01, 0x1D, 0x0E])], &[], SECOND, false),
-    ("words by their name", &[method!(0x96, "Start", &[0, 1, 0x01, 0x1D, 0x12, 0x11])], &[], SECOND, false),
-    ("a pointer to words", &[method!(0x96, "Start", &[0, 1, 0x01, 0x10, 0x1D, 0x0E])], &[], SECOND, true),
-    ("a word", &[method!(0x96, "Start", &[0, 1, 0x01, 0x0E])], &[], SECOND, true),
-    ("objects", &[method!(0x96, "Start", &[0, 1, 0x01, 0x1D, 0x1C])], &[], SECOND, true),
-    ("words and a number", &[method!(0x96, "Start", &[0, 2, 0x01, 0x1D, 0x0E, 0x08])], &[], SECOND, true),
-    ("a signature without form", &[method!(0x96, "Start", &[0, 0, 0x0C])], &[], SECOND, true),
-    ("a method of a nested type", &[class!(2, "A", OBJECT), row!(Nested { nested: A, enclosing: PROGRAM }), method!(0x96, "Start", &[0, 0, 0x01])], &[
-    ], SECOND, false),
-    ("a method of an interface", &[class!(0xA1, "A", 0), method!(0x96, "Start", &[0, 0, 0x01])], &[], SECOND, false),
-    ("a method of <Module>", &[], &[Column { table: 0x02, row: 2, column: 5, value: Is(2) }], MAIN, false),
-    ("a method that no type has", &[], &[
-        Column { table: 0x02, row: 1, column: 5, value: Is(2) }, Column { table: 0x02, row: 2, column: 5, value: Is(2) },
-    ], MAIN, true),
-];
-
-/// What is told of the whole program.
-fn refusal(is_refused: bool) -> Option<Fault> {
-    if is_refused {
-        Some(fault(2, (23, 255, 0, 0)))
-    } else {
-        None
-    }
-}
+/// Each with the entry token of the program.
+const ENTRIES: &str = "
+-: Main: : : 06000001
+2 23 FF 0 0: none: : : 00000000
+2 23 FF 0 0: a reference to a method: member | 02000002 | | Main | 00 00 01: : 0A000001
+2 23 FF 0 0: a type: : : 02000002
+2 23 FF 0 0: a file: : : 26000001
+2 23 FF 0 0: a literal: : : 70000001
+2 23 FF 0 0: a number without table: : : 00000001
+2 23 FF 0 0: method 0: : : 06000000
+2 23 FF 0 0: a method behind the last: : : 06000002
+2 23 FF 0 0: the last of all methods: : : 06FFFFFF
+-: another name: method | 96 | | Start | 00 00 01 | 06 2A: : 06000002
+-: a private method: method | 91 | | Start | 00 00 01 | 06 2A: : 06000002
+2 23 FF 0 0: an instance method: method | 86 | | Start | 20 00 01 | 06 2A: : 06000002
+2 23 FF 0 0: an abstract method: type | 81 | 01000001 | A; method | 5C6 | | Start | 20 00 01: : 06000002
+2 23 FF 0 0: a static method with this: method | 96 | | Start | 20 00 01 | 06 2A: : 06000002
+-: an int: method | 96 | | Start | 00 00 08 | 06 2A: : 06000002
+-: an int by its name: method | 96 | | Start | 00 00 11 25 | 06 2A: : 06000002
+2 23 FF 0 0: an unsigned number: method | 96 | | Start | 00 00 09 | 06 2A: : 06000002
+2 23 FF 0 0: a long: method | 96 | | Start | 00 00 0A | 06 2A: : 06000002
+2 23 FF 0 0: a text: method | 96 | | Start | 00 00 0E | 06 2A: : 06000002
+-: words: method | 96 | | Start | 00 01 01 1D 0E | 06 2A: : 06000002
+-: words by their name: method | 96 | | Start | 00 01 01 1D 12 11 | 06 2A: : 06000002
+2 23 FF 0 0: a pointer to words: method | 96 | | Start | 00 01 01 10 1D 0E | 06 2A: : 06000002
+2 23 FF 0 0: a word: method | 96 | | Start | 00 01 01 0E | 06 2A: : 06000002
+2 23 FF 0 0: objects: method | 96 | | Start | 00 01 01 1D 1C | 06 2A: : 06000002
+2 23 FF 0 0: words and a number: method | 96 | | Start | 00 02 01 1D 0E 08 | 06 2A: : 06000002
+2 23 FF 0 0: a signature without form: method | 96 | | Start | 00 00 0C | 06 2A: : 06000002
+-: a method of a nested type: type | 2 | 01000001 | A; nested | 02000003 | 02000002; method | 96 | | Start | 00 00 01 | 06 2A: : 06000002
+-: a method of an interface: type | A1 | | A; method | 96 | | Start | 00 00 01 | 06 2A: : 06000002
+-: a method of <Module>: : is | 02 | 2 | 5 | 2: 06000001
+2 23 FF 0 0: a method that no type has: : is | 02 | 1 | 5 | 2; is | 02 | 2 | 5 | 2: 06000001
+";
 
 #[test]
 fn entries(rt: HostRuntime) -> Result<(), Fail> {
-    for (name, rows, changes, entry, is_refused) in ENTRIES {
-        let assembly = Assembly {
-            name: "App",
-            entry,
-            rows,
-            changes,
-        };
-        let told = told_of(rt.alloc(), &FRONT, &[assembly])?;
-        assert_eq!(rt; told, refusal(is_refused), "{name}");
-    }
-    Ok(())
-}
-
-/// A file behind another: the entry tokens of both, and the file of which rule 23 is told.
-const PAIRS: [(u32, u32, Option<u16>); 9] = [
-    (MAIN, 0, None),
-    (0, MAIN, None),
-    (0, 0, Some(3)),
-    (MAIN, MAIN, Some(3)),
-    (PROGRAM, 0, Some(2)),
-    (PROGRAM, MAIN, Some(2)),
-    (MAIN, PROGRAM, Some(3)),
-    (0, PROGRAM, Some(3)),
-    (SECOND, SECOND, Some(2)),
-];
-
-fn told_at(file: Option<u16>) -> Option<Fault> {
-    match file {
-        Some(file) => {
-            let told: Told = (23, 255, 0, 0);
-            Some(fault(file, told))
-        }
-        None => None,
-    }
-}
-
-#[test]
-fn entries_of_two_files(rt: HostRuntime) -> Result<(), Fail> {
-    for (first, second, want) in PAIRS {
-        let pair = [
-            Assembly {
-                name: "First",
-                entry: first,
-                rows: &[],
-                changes: &[],
-            },
-            Assembly {
-                name: "Second",
-                entry: second,
-                rows: &[],
-                changes: &[],
-            },
-        ];
-        let told = told_of(rt.alloc(), &FRONT, &pair)?;
-        assert_eq!(rt; told, told_at(want), "{first:x} and {second:x}");
-    }
-    Ok(())
+    cases_are_told(&rt, ENTRIES)
 }

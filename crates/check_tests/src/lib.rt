@@ -1,6 +1,8 @@
-//! What the rules 20 to 30 tell of small assemblies, in tables: each ground of each rule with its place, and what passes.
+//! What the rules 20 to 30 tell of small assemblies, in lines of text: each ground of each rule with its place, and what passes.
 #![tactic(auto)]
 
+#[cfg(test)]
+mod cases;
 #[cfg(test)]
 mod entries;
 #[cfg(test)]
@@ -13,8 +15,6 @@ mod methods;
 mod program;
 #[cfg(test)]
 mod references;
-#[cfg(test)]
-mod rows;
 #[cfg(test)]
 mod told;
 #[cfg(test)]

@@ -1,149 +1,108 @@
 //! Rules 27, 29 and 30 of methods (ECMA-335 II.22.26, II.23.2.1).
 
-use crate::program::{
-    A, ENUM, MODULE_TYPE, OBJECT, PROGRAM, VALUE_TYPE, class, field, method, row,
-};
-use crate::rows::{Changed, Rows, changes_are_told, rows_are_told};
-use assembly_rows::change::Change;
-use assembly_rows::change::Change::Column;
-use assembly_rows::change::Value::Is;
+use crate::cases::cases_are_told;
 use std::test::Fail;
 
-#[rattlefmt::skip]
-const SIGNATURES: [Rows; 31] = [
-    ("pointers, arrays and texts", &[method!(0x96, "A", &[0, 3, 0x08, 0x10, 0x1D, 0x0E, 0x1D, 0x1C, 0x0E])], None),
-    ("no bytes", &[method!(0x96, "A", &[])], Some((27, 0x06, 2, 0))),
-    ("a field's", &[method!(0x96, "A", &[0x06, 0x08])], Some((27, 0x06, 2, 0))),
-    ("generic", &[method!(0x96, "A", &[0x10, 1, 0, 0x01])], Some((27, 0x06, 2, 0))),
-    ("variable arguments", &[method!(0x96, "A", &[0x05, 0, 0x01])], Some((27, 0x06, 2, 0))),
-    ("this among the parameters", &[method!(0x96, "A", &[0x60, 1, 0x01, 0x08])], Some((27, 0x06, 2, 0))),
-    ("no count", &[method!(0x96, "A", &[0])], Some((27, 0x06, 2, 1))),
-    ("a count above 65,535", &[method!(0x96, "A", &[0, 0xC0, 0x01, 0x00, 0x00, 0x01])], Some((27, 0x06, 2, 1))),
-    ("no result", &[method!(0x96, "A", &[0, 0])], Some((27, 0x06, 2, 2))),
-    ("a pointer as a result", &[method!(0x96, "A", &[0, 0, 0x10, 0x08])], Some((27, 0x06, 2, 2))),
-    ("an array of void", &[method!(0x96, "A", &[0, 0, 0x1D, 0x01])], Some((27, 0x06, 2, 3))),
-    ("a float as a result", &[method!(0x96, "A", &[0, 0, 0x0C])], Some((27, 0x06, 2, 2))),
-    ("a parameter of void", &[method!(0x96, "A", &[0, 1, 0x01, 0x01])], Some((27, 0x06, 2, 3))),
-    ("a pointer to a pointer", &[method!(0x96, "A", &[0, 1, 0x01, 0x10, 0x10, 0x08])], Some((27, 0x06, 2, 4))),
-    ("an array of pointers", &[method!(0x96, "A", &[0, 1, 0x01, 0x1D, 0x10, 0x08])], Some((27, 0x06, 2, 4))),
-    ("a typed reference", &[method!(0x96, "A", &[0, 1, 0x01, 0x16])], Some((27, 0x06, 2, 3))),
-    ("too few parameters", &[method!(0x96, "A", &[0, 2, 0x01, 0x08])], Some((27, 0x06, 2, 4))),
-    ("too many parameters", &[method!(0x96, "A", &[0, 0, 0x01, 0x08])], Some((27, 0x06, 2, 3))),
-    ("an optional part", &[method!(0x96, "A", &[0, 1, 0x01, 0x41, 0x08])], Some((27, 0x06, 2, 3))),
-    ("a result that isn't there", &[method!(0x96, "A", &[0, 0, 0x12, 0x15])], Some((27, 0x06, 2, 2))),
-    ("a parameter that isn't there", &[method!(0x96, "A", &[0, 1, 0x01, 0x12, 0x15])], Some((27, 0x06, 2, 3))),
-    ("a pointer to what isn't there", &[method!(0x96, "A", &[0, 1, 0x01, 0x10, 0x12, 0x15])], Some((27, 0x06, 2, 4))),
-    ("the second parameter isn't there", &[method!(0x96, "A", &[0, 2, 0x01, 0x08, 0x1D, 0x12, 0x15])], Some((27, 0x06, 2, 5))),
-    ("from left to right", &[method!(0x96, "A", &[0, 1, 0x12, 0x15, 0x12, 0x15])], Some((27, 0x06, 2, 2))),
-    ("the form before the types", &[method!(0x96, "A", &[0, 1, 0x12, 0x15, 0x0C])], Some((27, 0x06, 2, 4))),
-    ("a field handle", &[method!(0x96, "A", &[0, 1, 0x01, 0x11, 0x21])], Some((27, 0x06, 2, 3))),
-    ("a field handle as a result", &[method!(0x96, "A", &[0, 0, 0x11, 0x21])], Some((27, 0x06, 2, 2))),
-    ("an enum", &[
-        class!(0x101, "A", ENUM), field!(0x606, &[0x06, 0x08]), class!("B", OBJECT), method!(0x96, "A", &[0, 1, 0x11, 0x0C, 0x10, 0x11, 0x0C]),
-    ], None),
-    ("an enum as a class", &[
-        class!(0x101, "A", ENUM), field!(0x606, &[0x06, 0x08]), class!("B", OBJECT), method!(0x96, "A", &[0, 1, 0x11, 0x0C, 0x12, 0x0C]),
-    ], Some((27, 0x06, 2, 4))),
-    ("a data type", &[
-        class!(0x101, "A", VALUE_TYPE), row!(Layout { size: 4, class: A }), class!("B", OBJECT), method!(0x96, "A", &[0, 1, 0x01, 0x11, 0x0C]),
-    ], Some((27, 0x06, 2, 3))),
-    ("the signature before the flags", &[method!(0xD6, "A", &[0, 0, 0x0C])], Some((27, 0x06, 2, 2))),
-];
+const SIGNATURES: &str = "
+-: pointers, arrays and texts: method | 96 | | A | 00 03 08 10 1D 0E 1D 1C 0E | 06 2A
+2 27 06 2 0: no bytes: method | 96 | | A | | 06 2A
+2 27 06 2 0: a field's: method | 96 | | A | 06 08 | 06 2A
+2 27 06 2 0: generic: method | 96 | | A | 10 01 00 01 | 06 2A
+2 27 06 2 0: variable arguments: method | 96 | | A | 05 00 01 | 06 2A
+2 27 06 2 0: this among the parameters: method | 96 | | A | 60 01 01 08 | 06 2A
+2 27 06 2 1: no count: method | 96 | | A | 00 | 06 2A
+2 27 06 2 1: a count above 65,535: method | 96 | | A | 00 C0 01 00 00 01 | 06 2A
+2 27 06 2 2: no result: method | 96 | | A | 00 00 | 06 2A
+2 27 06 2 2: a pointer as a result: method | 96 | | A | 00 00 10 08 | 06 2A
+2 27 06 2 3: an array of void: method | 96 | | A | 00 00 1D 01 | 06 2A
+2 27 06 2 2: a float as a result: method | 96 | | A | 00 00 0C | 06 2A
+2 27 06 2 3: a parameter of void: method | 96 | | A | 00 01 01 01 | 06 2A
+2 27 06 2 4: a pointer to a pointer: method | 96 | | A | 00 01 01 10 10 08 | 06 2A
+2 27 06 2 4: an array of pointers: method | 96 | | A | 00 01 01 1D 10 08 | 06 2A
+2 27 06 2 3: a typed reference: method | 96 | | A | 00 01 01 16 | 06 2A
+2 27 06 2 4: too few parameters: method | 96 | | A | 00 02 01 08 | 06 2A
+2 27 06 2 3: too many parameters: method | 96 | | A | 00 00 01 08 | 06 2A
+2 27 06 2 3: an optional part: method | 96 | | A | 00 01 01 41 08 | 06 2A
+2 27 06 2 2: a result that isn't there: method | 96 | | A | 00 00 12 15 | 06 2A
+2 27 06 2 3: a parameter that isn't there: method | 96 | | A | 00 01 01 12 15 | 06 2A
+2 27 06 2 4: a pointer to what isn't there: method | 96 | | A | 00 01 01 10 12 15 | 06 2A
+2 27 06 2 5: the second parameter isn't there: method | 96 | | A | 00 02 01 08 1D 12 15 | 06 2A
+2 27 06 2 2: from left to right: method | 96 | | A | 00 01 12 15 12 15 | 06 2A
+2 27 06 2 4: the form before the types: method | 96 | | A | 00 01 12 15 0C | 06 2A
+2 27 06 2 3: a field handle: method | 96 | | A | 00 01 01 11 21 | 06 2A
+2 27 06 2 2: a field handle as a result: method | 96 | | A | 00 00 11 21 | 06 2A
+-: an enum: type | 101 | 01000003 | A; field | 606 | | field | 06 08; type | 100001 | 01000001 | B; method | 96 | | A | 00 01 11 0C 10 11 0C | 06 2A
+2 27 06 2 4: an enum as a class: type | 101 | 01000003 | A; field | 606 | | field | 06 08; type | 100001 | 01000001 | B; method | 96 | | A | 00 01 11 0C 12 0C | 06 2A
+2 27 06 2 3: a data type: type | 101 | 01000002 | A; layout | 4 | 02000003; type | 100001 | 01000001 | B; method | 96 | | A | 00 01 01 11 0C | 06 2A
+2 27 06 2 2: the signature before the flags: method | D6 | | A | 00 00 0C | 06 2A
+";
 
 #[test]
 fn signatures_of_methods(rt: HostRuntime) -> Result<(), Fail> {
-    rows_are_told(&rt, &SIGNATURES)
+    cases_are_told(&rt, SIGNATURES)
 }
 
-#[rattlefmt::skip]
-const METHODS: [Rows; 43] = [
-    ("native code", &[method!(1, 0x96, "A", &[0, 0, 0x01], &[0x06, 0x2A])], Some((29, 0x06, 2, 0))),
-    ("code of the runtime", &[method!(3, 0x96, "A", &[0, 0, 0x01], &[])], Some((29, 0x06, 2, 0))),
-    ("unmanaged", &[method!(4, 0x96, "A", &[0, 0, 0x01], &[0x06, 0x2A])], Some((29, 0x06, 2, 0))),
-    ("synchronized", &[method!(0x20, 0x96, "A", &[0, 0, 0x01], &[0x06, 0x2A])], Some((29, 0x06, 2, 0))),
-    ("an internal call", &[method!(0x1000, 0x96, "A", &[0, 0, 0x01], &[])], Some((29, 0x06, 2, 0))),
-    ("not inlined, nor optimised", &[method!(0x48, 0x96, "A", &[0, 0, 0x01], &[0x06, 0x2A])], None),
-    ("of a library of the system", &[method!(0x2096, "A", &[0, 0, 0x01], &[])], Some((29, 0x06, 2, 0))),
-    ("static and virtual", &[method!(0xD6, "A", &[0, 0, 0x01])], Some((29, 0x06, 2, 0))),
-    ("virtual", &[method!(0xC6, "A", &[0x20, 0, 0x01])], None),
-    ("static with this", &[method!(0x96, "A", &[0x20, 0, 0x01])], None),
-    ("abstract in an abstract class", &[class!(0x81, "A", OBJECT), method!(0x5C6, "A", &[0x20, 0, 0x01], &[])], None),
-    ("abstract in an interface", &[class!(0xA1, "A", 0), method!(0x5C6, "A", &[0x20, 0, 0x01], &[])], None),
-    ("abstract and not virtual", &[class!(0x81, "A", OBJECT), method!(0x486, "A", &[0x20, 0, 0x01], &[])], Some((29, 0x06, 2, 0))),
-    ("abstract in another class", &[method!(0x5C6, "A", &[0x20, 0, 0x01], &[])], Some((29, 0x06, 2, 0))),
-    ("abstract in an interface that isn't", &[class!(0x21, "A", 0), method!(0x5C6, "A", &[0x20, 0, 0x01], &[])], Some((29, 0x06, 2, 0))),
-    ("abstract with a body", &[class!(0x81, "A", OBJECT), method!(0x5C6, "A", &[0x20, 0, 0x01])], Some((29, 0x06, 2, 0))),
-    ("without a body", &[method!(0x96, "A", &[0, 0, 0x01], &[])], Some((29, 0x06, 2, 0))),
-    ("of an interface, without a body", &[class!(0xA1, "A", 0), method!(0x1C6, "A", &[0x20, 0, 0x01], &[])], Some((29, 0x06, 2, 0))),
-    ("a constructor", &[method!(0x1886, ".ctor", &[0x20, 1, 0x01, 0x08])], None),
-    ("a static constructor of objects", &[method!(0x1896, ".ctor", &[0, 0, 0x01])], Some((29, 0x06, 2, 0))),
-    ("one whose signature alone has this", &[method!(0x1896, ".ctor", &[0x20, 0, 0x01])], Some((29, 0x06, 2, 0))),
-    ("one without this", &[method!(0x1886, ".ctor", &[0, 0, 0x01])], Some((29, 0x06, 2, 0))),
-    ("a virtual constructor", &[method!(0x18C6, ".ctor", &[0x20, 0, 0x01])], Some((29, 0x06, 2, 0))),
-    ("a constructor that gives a number", &[method!(0x1886, ".ctor", &[0x20, 0, 0x08])], Some((29, 0x06, 2, 0))),
-    ("a constructor of an interface", &[class!(0xA1, "A", 0), method!(0x1886, ".ctor", &[0x20, 0, 0x01])], None),
-    ("a constructor of a data type", &[
-        class!(0x101, "A", VALUE_TYPE), row!(Layout { size: 4, class: A }), method!(0x1886, ".ctor", &[0x20, 0, 0x01]),
-    ], None),
-    ("a constructor that isn't under Object", &[class!("A", MODULE_TYPE), method!(0x1886, ".ctor", &[0x20, 0, 0x01])], Some((29, 0x06, 2, 0))),
-    ("a method that isn't under Object", &[class!("A", MODULE_TYPE), method!(0x86, "A", &[0x20, 0, 0x01])], None),
-    ("a name of other letters", &[method!(0x96, ".Ctor", &[0, 0, 0x08])], None),
-    ("an initialiser", &[method!(0x1896, ".cctor", &[0, 0, 0x01])], None),
-    ("an initialiser of an interface", &[class!(0xA1, "A", 0), method!(0x1896, ".cctor", &[0, 0, 0x01])], None),
-    ("an initialiser of objects", &[method!(0x1886, ".cctor", &[0x20, 0, 0x01])], Some((29, 0x06, 2, 0))),
-    ("an initialiser whose signature has this", &[method!(0x1896, ".cctor", &[0x20, 0, 0x01])], Some((29, 0x06, 2, 0))),
-    ("an initialiser with a parameter", &[method!(0x1896, ".cctor", &[0, 1, 0x01, 0x08])], Some((29, 0x06, 2, 0))),
-    ("an initialiser that gives a number", &[method!(0x1896, ".cctor", &[0, 0, 0x08])], Some((29, 0x06, 2, 0))),
-    ("a name and a signature twice", &[method!(0x96, "Main", &[0, 0, 0x01])], Some((30, 0x06, 2, 0))),
-    ("with this", &[method!(0x86, "Main", &[0x20, 0, 0x01])], None),
-    ("with a parameter, with a pointer, with a result", &[
-        method!(0x96, "Main", &[0, 1, 0x01, 0x08]), method!(0x96, "Main", &[0, 1, 0x01, 0x10, 0x08]), method!(0x96, "Main", &[0, 0, 0x08]),
-    ], None),
-    ("a count of two lengths", &[method!(0x96, "Main", &[0, 0x80, 0x00, 0x01])], Some((30, 0x06, 2, 0))),
-    ("the third as the first", &[method!(0x96, "A", &[0, 0, 0x01]), method!(0x96, "Main", &[0, 0, 0x01])], Some((30, 0x06, 3, 0))),
-    ("in two types", &[class!("A", PROGRAM), method!(0x96, "Main", &[0, 0, 0x01])], None),
-    ("the flags before the name", &[method!(0xD6, "Main", &[0, 0, 0x01])], Some((29, 0x06, 2, 0))),
-    ("fields before methods", &[method!(0xD6, "A", &[0, 0, 0x01]), field!(0x16, &[0x06, 0x0C])], Some((27, 0x04, 1, 1))),
-];
+const METHODS: &str = "
+2 29 06 2 0: native code: method | 96 | 1 | A | 00 00 01 | 06 2A
+2 29 06 2 0: code of the runtime: method | 96 | 3 | A | 00 00 01
+2 29 06 2 0: unmanaged: method | 96 | 4 | A | 00 00 01 | 06 2A
+2 29 06 2 0: synchronized: method | 96 | 20 | A | 00 00 01 | 06 2A
+2 29 06 2 0: an internal call: method | 96 | 1000 | A | 00 00 01
+-: not inlined, nor optimised: method | 96 | 48 | A | 00 00 01 | 06 2A
+2 29 06 2 0: of a library of the system: method | 2096 | | A | 00 00 01
+2 29 06 2 0: static and virtual: method | D6 | | A | 00 00 01 | 06 2A
+-: virtual: method | C6 | | A | 20 00 01 | 06 2A
+-: static with this: method | 96 | | A | 20 00 01 | 06 2A
+-: abstract in an abstract class: type | 81 | 01000001 | A; method | 5C6 | | A | 20 00 01
+-: abstract in an interface: type | A1 | | A; method | 5C6 | | A | 20 00 01
+2 29 06 2 0: abstract and not virtual: type | 81 | 01000001 | A; method | 486 | | A | 20 00 01
+2 29 06 2 0: abstract in another class: method | 5C6 | | A | 20 00 01
+2 29 06 2 0: abstract in an interface that isn't: type | 21 | | A; method | 5C6 | | A | 20 00 01
+2 29 06 2 0: abstract with a body: type | 81 | 01000001 | A; method | 5C6 | | A | 20 00 01 | 06 2A
+2 29 06 2 0: without a body: method | 96 | | A | 00 00 01
+2 29 06 2 0: of an interface, without a body: type | A1 | | A; method | 1C6 | | A | 20 00 01
+-: a constructor: method | 1886 | | .ctor | 20 01 01 08 | 06 2A
+2 29 06 2 0: a static constructor of objects: method | 1896 | | .ctor | 00 00 01 | 06 2A
+2 29 06 2 0: one whose signature alone has this: method | 1896 | | .ctor | 20 00 01 | 06 2A
+2 29 06 2 0: one without this: method | 1886 | | .ctor | 00 00 01 | 06 2A
+2 29 06 2 0: a virtual constructor: method | 18C6 | | .ctor | 20 00 01 | 06 2A
+2 29 06 2 0: a constructor that gives a number: method | 1886 | | .ctor | 20 00 08 | 06 2A
+-: a constructor of an interface: type | A1 | | A; method | 1886 | | .ctor | 20 00 01 | 06 2A
+-: a constructor of a data type: type | 101 | 01000002 | A; layout | 4 | 02000003; method | 1886 | | .ctor | 20 00 01 | 06 2A
+2 29 06 2 0: a constructor that isn't under Object: type | 100001 | 02000001 | A; method | 1886 | | .ctor | 20 00 01 | 06 2A
+-: a method that isn't under Object: type | 100001 | 02000001 | A; method | 86 | | A | 20 00 01 | 06 2A
+-: a name of other letters: method | 96 | | .Ctor | 00 00 08 | 06 2A
+-: an initialiser: method | 1896 | | .cctor | 00 00 01 | 06 2A
+-: an initialiser of an interface: type | A1 | | A; method | 1896 | | .cctor | 00 00 01 | 06 2A
+2 29 06 2 0: an initialiser of objects: method | 1886 | | .cctor | 20 00 01 | 06 2A
+2 29 06 2 0: an initialiser whose signature has this: method | 1896 | | .cctor | 20 00 01 | 06 2A
+2 29 06 2 0: an initialiser with a parameter: method | 1896 | | .cctor | 00 01 01 08 | 06 2A
+2 29 06 2 0: an initialiser that gives a number: method | 1896 | | .cctor | 00 00 08 | 06 2A
+2 30 06 2 0: a name and a signature twice: method | 96 | | Main | 00 00 01 | 06 2A
+-: with this: method | 86 | | Main | 20 00 01 | 06 2A
+-: with a parameter, with a pointer, with a result: method | 96 | | Main | 00 01 01 08 | 06 2A; method | 96 | | Main | 00 01 01 10 08 | 06 2A; method | 96 | | Main | 00 00 08 | 06 2A
+2 30 06 2 0: a count of two lengths: method | 96 | | Main | 00 80 00 01 | 06 2A
+2 30 06 3 0: the third as the first: method | 96 | | A | 00 00 01 | 06 2A; method | 96 | | Main | 00 00 01 | 06 2A
+-: in two types: type | 100001 | 02000002 | A; method | 96 | | Main | 00 00 01 | 06 2A
+2 29 06 2 0: the flags before the name: method | D6 | | Main | 00 00 01 | 06 2A
+2 27 04 1 1: fields before methods: method | D6 | | A | 00 00 01 | 06 2A; field | 16 | | field | 06 0C
+";
 
 #[test]
 fn methods(rt: HostRuntime) -> Result<(), Fail> {
-    rows_are_told(&rt, &METHODS)
+    cases_are_told(&rt, METHODS)
 }
 
-/// The methods of `<Module>` begin at the second, and so do the program's.
-const NOT_OF_MODULE: Change = Column {
-    table: 0x02,
-    row: 1,
-    column: 5,
-    value: Is(2),
-};
-
-const NOT_OF_PROGRAM: Change = Column {
-    table: 0x02,
-    row: 2,
-    column: 5,
-    value: Is(2),
-};
-
-const SECOND_ENTRY: Change = Change::Entry(0x0600_0002);
-
-#[rattlefmt::skip]
-const CHANGED: [Changed; 5] = [
-    ("a method that no type has", &[method!(0x96, "Main", &[0, 0, 0x01])], &[NOT_OF_MODULE, NOT_OF_PROGRAM, SECOND_ENTRY], None),
-    ("its signature", &[method!(0x96, "Main", &[0, 0, 0x01])], &[
-        NOT_OF_MODULE, NOT_OF_PROGRAM, SECOND_ENTRY, Column { table: 0x06, row: 1, column: 4, value: Is(0) },
-    ], Some((27, 0x06, 1, 0))),
-    ("its flags", &[method!(0x96, "Main", &[0, 0, 0x01])], &[
-        NOT_OF_MODULE, NOT_OF_PROGRAM, SECOND_ENTRY, Column { table: 0x06, row: 1, column: 2, value: Is(0xD6) },
-    ], Some((29, 0x06, 1, 0))),
-    ("its body", &[method!(0x96, "Main", &[0, 0, 0x01])], &[
-        NOT_OF_MODULE, NOT_OF_PROGRAM, SECOND_ENTRY, Column { table: 0x06, row: 1, column: 0, value: Is(0) },
-    ], Some((29, 0x06, 1, 0))),
-    ("an internal call with an address", &[method!(0x96, "A", &[0, 0, 0x01])], &[Column { table: 0x06, row: 2, column: 1, value: Is(0x1000) }], Some((29, 0x06, 2, 0))),
-];
+/// In the first four the methods of `<Module>` begin at the second, and so do the program's.
+const CHANGED: &str = "
+-: a method that no type has: method | 96 | | Main | 00 00 01 | 06 2A: is | 02 | 1 | 5 | 2; is | 02 | 2 | 5 | 2; entry | 06000002
+2 27 06 1 0: its signature: method | 96 | | Main | 00 00 01 | 06 2A: is | 02 | 1 | 5 | 2; is | 02 | 2 | 5 | 2; entry | 06000002; is | 06 | 1 | 4 | 0
+2 29 06 1 0: its flags: method | 96 | | Main | 00 00 01 | 06 2A: is | 02 | 1 | 5 | 2; is | 02 | 2 | 5 | 2; entry | 06000002; is | 06 | 1 | 2 | D6
+2 29 06 1 0: its body: method | 96 | | Main | 00 00 01 | 06 2A: is | 02 | 1 | 5 | 2; is | 02 | 2 | 5 | 2; entry | 06000002; is | 06 | 1 | 0 | 0
+2 29 06 2 0: an internal call with an address: method | 96 | | A | 00 00 01 | 06 2A: is | 06 | 2 | 1 | 1000
+";
 
 #[test]
 fn changed_methods(rt: HostRuntime) -> Result<(), Fail> {
-    changes_are_told(&rt, &CHANGED)
+    cases_are_told(&rt, CHANGED)
 }

@@ -1,131 +1,84 @@
 //! Rule 27 of references to members, locals and array types: what is looked at, and what is passed over.
 
-use crate::program::{
-    A, LIBRARY, MISSING, NEXT_REFERENCE, OBJECT, PROGRAM, VALUE_TYPE, class, method, reference, row,
-};
-use crate::rows::{Rows, rows_are_told};
+use crate::cases::cases_are_told;
 use std::test::Fail;
 
-/// A body that calls the first reference to a member.
-const CALL: &[u8] = &[0x1A, 0x28, 1, 0, 0, 0x0A, 0x2A];
-
-/// A method with that body.
-macro_rules! caller {
-    () => {
-        method!(0x96, "A", &[0, 0, 0x01], CALL)
-    };
-    ($body:expr) => {
-        method!(0x96, "A", &[0, 0, 0x01], $body)
-    };
-}
-
-/// A reference to a method of Object, or of another type.
-macro_rules! member {
-    ($sig:expr) => {
-        member!(OBJECT, $sig)
-    };
-    ($parent:expr, $sig:expr) => {
-        row!(Member { parent: $parent, name: "M", sig: $sig })
-    };
-}
-
-#[rattlefmt::skip]
-const MEMBERS: [Rows; 31] = [
-    ("a method", &[member!(&[0, 0, 0x01]), caller!()], None),
-    ("a method that the class hasn't, of a class that isn't there", &[member!(MISSING, &[0, 0, 0x01]), caller!()], None),
-    ("a method without form that nothing names", &[member!(&[0, 0, 0x0C])], None),
-    ("a method without form", &[member!(&[0, 0, 0x0C]), caller!()], Some((27, 0x0A, 1, 2))),
-    ("no bytes", &[member!(&[]), caller!()], Some((27, 0x0A, 1, 0))),
-    ("variable arguments", &[member!(&[0x05, 1, 0x01, 0x08, 0x41, 0x08]), caller!()], Some((27, 0x0A, 1, 0))),
-    ("a generic method", &[member!(&[0x10, 1, 0, 0x01]), caller!()], Some((27, 0x0A, 1, 0))),
-    ("a result that isn't there", &[member!(&[0, 0, 0x12, 0x15]), caller!()], Some((27, 0x0A, 1, 2))),
-    ("a parameter that isn't there", &[member!(&[0, 1, 0x01, 0x12, 0x15]), caller!()], Some((27, 0x0A, 1, 3))),
-    ("the second reference", &[member!(&[0, 0, 0x0C]), member!(&[0, 1, 0x01, 0x0C]), caller!(&[0x1A, 0x28, 2, 0, 0, 0x0A, 0x2A])], Some((27, 0x0A, 2, 3))),
-    ("a field", &[member!(&[0x06, 0x08]), caller!(&[0x1E, 0x7E, 1, 0, 0, 0x0A, 0x26, 0x2A])], None),
-    ("a field without form", &[member!(&[0x06, 0x0C]), caller!(&[0x1E, 0x7E, 1, 0, 0, 0x0A, 0x26, 0x2A])], Some((27, 0x0A, 1, 1))),
-    ("a field's type that isn't there", &[member!(&[0x06, 0x1D, 0x12, 0x15]), caller!(&[0x1E, 0x7E, 1, 0, 0, 0x0A, 0x26, 0x2A])], Some((27, 0x0A, 1, 2))),
-    ("a field that is called", &[member!(&[0x06, 0x0C]), caller!()], Some((27, 0x0A, 1, 1))),
-    ("a method as a type", &[member!(&[0, 0, 0x0C]), caller!(&[0x1E, 0x8D, 1, 0, 0, 0x0A, 0x26, 0x2A])], Some((27, 0x0A, 1, 2))),
-    ("a method as a handle", &[member!(&[0, 0, 0x0C]), caller!(&[0x1E, 0xD0, 1, 0, 0, 0x0A, 0x26, 0x2A])], Some((27, 0x0A, 1, 2))),
-    ("a method as a text", &[member!(&[0, 0, 0x0C]), caller!(&[0x1E, 0x72, 1, 0, 0, 0x0A, 0x26, 0x2A])], None),
-    ("a method as a number", &[member!(&[0, 0, 0x0C]), caller!(&[0x1E, 0x20, 1, 0, 0, 0x0A, 0x26, 0x2A])], None),
-    ("behind the last return", &[member!(&[0, 0, 0x0C]), caller!(&[0x1E, 0x2A, 0x28, 1, 0, 0, 0x0A, 0x2A])], Some((27, 0x0A, 1, 2))),
-    ("behind an instruction that isn't accepted", &[member!(&[0, 0, 0x0C]), caller!(&[0x1E, 0x24, 0x28, 1, 0, 0, 0x0A, 0x2A])], None),
-    ("before an instruction that isn't accepted", &[member!(&[0, 0, 0x0C]), caller!(&[0x1E, 0x28, 1, 0, 0, 0x0A, 0x24, 0x2A])], Some((27, 0x0A, 1, 2))),
-    ("a cut instruction", &[member!(&[0, 0, 0x0C]), caller!(&[0x12, 0x28, 1, 0, 0, 0x0A])], None),
-    ("in a body without form", &[member!(&[0, 0, 0x0C]), caller!(&[0x00, 0x28, 1, 0, 0, 0x0A, 0x2A])], None),
-    ("a field handle of the library", &[
-        reference!(LIBRARY, "System.Runtime.CompilerServices", "RuntimeHelpers"), member!(NEXT_REFERENCE, &[0, 2, 0x01, 0x12, 0x1D, 0x11, 0x21]),
-        caller!(),
-    ], None),
-    ("an array of handles of the library", &[member!(&[0, 1, 0x01, 0x1D, 0x11, 0x21]), caller!()], None),
-    ("a field handle as the library's result", &[member!(&[0, 0, 0x11, 0x21]), caller!()], Some((27, 0x0A, 1, 2))),
-    ("a field handle of the program", &[member!(PROGRAM, &[0, 2, 0x01, 0x12, 0x1D, 0x11, 0x21]), caller!()], Some((27, 0x0A, 1, 5))),
-    ("a field handle of a class that isn't there", &[member!(MISSING, &[0, 1, 0x01, 0x11, 0x21]), caller!()], Some((27, 0x0A, 1, 3))),
-    ("a data type", &[
-        class!(0x101, "A", VALUE_TYPE), row!(Layout { size: 4, class: A }), class!("B", OBJECT), member!(PROGRAM, &[0x06, 0x11, 0x0C]),
-        caller!(&[0x1E, 0x7E, 1, 0, 0, 0x0A, 0x26, 0x2A]),
-    ], Some((27, 0x0A, 1, 1))),
-    ("a method of an array", &[row!(Spec { sig: &[0x1D, 0x0C] }), member!(0x1B00_0001, &[0, 0, 0x01]), caller!()], None),
-    ("its own table before the references", &[member!(&[0, 0, 0x0C]), caller!(), method!(0x96, "Main", &[0, 0, 0x01])], Some((30, 0x06, 3, 0))),
-];
+/// Most bodies call the first reference to a member, or load the field that it names.
+const MEMBERS: &str = "
+-: a method: member | 01000001 | | M | 00 00 01; method | 96 | | A | 00 00 01 | 1A 28 01 00 00 0A 2A
+-: a method that the class hasn't, of a class that isn't there: member | 01000005 | | M | 00 00 01; method | 96 | | A | 00 00 01 | 1A 28 01 00 00 0A 2A
+-: a method without form that nothing names: member | 01000001 | | M | 00 00 0C
+2 27 0A 1 2: a method without form: member | 01000001 | | M | 00 00 0C; method | 96 | | A | 00 00 01 | 1A 28 01 00 00 0A 2A
+2 27 0A 1 0: no bytes: member | 01000001 | | M; method | 96 | | A | 00 00 01 | 1A 28 01 00 00 0A 2A
+2 27 0A 1 0: variable arguments: member | 01000001 | | M | 05 01 01 08 41 08; method | 96 | | A | 00 00 01 | 1A 28 01 00 00 0A 2A
+2 27 0A 1 0: a generic method: member | 01000001 | | M | 10 01 00 01; method | 96 | | A | 00 00 01 | 1A 28 01 00 00 0A 2A
+2 27 0A 1 2: a result that isn't there: member | 01000001 | | M | 00 00 12 15; method | 96 | | A | 00 00 01 | 1A 28 01 00 00 0A 2A
+2 27 0A 1 3: a parameter that isn't there: member | 01000001 | | M | 00 01 01 12 15; method | 96 | | A | 00 00 01 | 1A 28 01 00 00 0A 2A
+2 27 0A 2 3: the second reference: member | 01000001 | | M | 00 00 0C; member | 01000001 | | M | 00 01 01 0C; method | 96 | | A | 00 00 01 | 1A 28 02 00 00 0A 2A
+-: a field: member | 01000001 | | M | 06 08; method | 96 | | A | 00 00 01 | 1E 7E 01 00 00 0A 26 2A
+2 27 0A 1 1: a field without form: member | 01000001 | | M | 06 0C; method | 96 | | A | 00 00 01 | 1E 7E 01 00 00 0A 26 2A
+2 27 0A 1 2: a field's type that isn't there: member | 01000001 | | M | 06 1D 12 15; method | 96 | | A | 00 00 01 | 1E 7E 01 00 00 0A 26 2A
+2 27 0A 1 1: a field that is called: member | 01000001 | | M | 06 0C; method | 96 | | A | 00 00 01 | 1A 28 01 00 00 0A 2A
+2 27 0A 1 2: a method as a type: member | 01000001 | | M | 00 00 0C; method | 96 | | A | 00 00 01 | 1E 8D 01 00 00 0A 26 2A
+2 27 0A 1 2: a method as a handle: member | 01000001 | | M | 00 00 0C; method | 96 | | A | 00 00 01 | 1E D0 01 00 00 0A 26 2A
+-: a method as a text: member | 01000001 | | M | 00 00 0C; method | 96 | | A | 00 00 01 | 1E 72 01 00 00 0A 26 2A
+-: a method as a number: member | 01000001 | | M | 00 00 0C; method | 96 | | A | 00 00 01 | 1E 20 01 00 00 0A 26 2A
+2 27 0A 1 2: behind the last return: member | 01000001 | | M | 00 00 0C; method | 96 | | A | 00 00 01 | 1E 2A 28 01 00 00 0A 2A
+-: behind an instruction that isn't accepted: member | 01000001 | | M | 00 00 0C; method | 96 | | A | 00 00 01 | 1E 24 28 01 00 00 0A 2A
+2 27 0A 1 2: before an instruction that isn't accepted: member | 01000001 | | M | 00 00 0C; method | 96 | | A | 00 00 01 | 1E 28 01 00 00 0A 24 2A
+-: a cut instruction: member | 01000001 | | M | 00 00 0C; method | 96 | | A | 00 00 01 | 12 28 01 00 00 0A
+-: in a body without form: member | 01000001 | | M | 00 00 0C; method | 96 | | A | 00 00 01 | 00 28 01 00 00 0A 2A
+-: a field handle of the library: reference | 23000001 | | System.Runtime.CompilerServices RuntimeHelpers; member | 0100000A | | M | 00 02 01 12 1D 11 21; method | 96 | | A | 00 00 01 | 1A 28 01 00 00 0A 2A
+-: an array of handles of the library: member | 01000001 | | M | 00 01 01 1D 11 21; method | 96 | | A | 00 00 01 | 1A 28 01 00 00 0A 2A
+2 27 0A 1 2: a field handle as the library's result: member | 01000001 | | M | 00 00 11 21; method | 96 | | A | 00 00 01 | 1A 28 01 00 00 0A 2A
+2 27 0A 1 5: a field handle of the program: member | 02000002 | | M | 00 02 01 12 1D 11 21; method | 96 | | A | 00 00 01 | 1A 28 01 00 00 0A 2A
+2 27 0A 1 3: a field handle of a class that isn't there: member | 01000005 | | M | 00 01 01 11 21; method | 96 | | A | 00 00 01 | 1A 28 01 00 00 0A 2A
+2 27 0A 1 1: a data type: type | 101 | 01000002 | A; layout | 4 | 02000003; type | 100001 | 01000001 | B; member | 02000002 | | M | 06 11 0C; method | 96 | | A | 00 00 01 | 1E 7E 01 00 00 0A 26 2A
+-: a method of an array: spec | | | | 1D 0C; member | 1B000001 | | M | 00 00 01; method | 96 | | A | 00 00 01 | 1A 28 01 00 00 0A 2A
+2 30 06 3 0: its own table before the references: member | 01000001 | | M | 00 00 0C; method | 96 | | A | 00 00 01 | 1A 28 01 00 00 0A 2A; method | 96 | | Main | 00 00 01 | 06 2A
+";
 
 #[test]
 fn references_to_members(rt: HostRuntime) -> Result<(), Fail> {
-    rows_are_told(&rt, &MEMBERS)
+    cases_are_told(&rt, MEMBERS)
 }
 
-#[rattlefmt::skip]
-const LOCALS: [Rows; 13] = [
-    ("none", &[row!(Locals { sig: &[0x07, 0] })], None),
-    ("of each kind", &[row!(Locals { sig: &[0x07, 4, 0x08, 0x1D, 0x0E, 0x12, 0x08, 0x11, 0x25] })], None),
-    ("no bytes", &[row!(Locals { sig: &[] })], Some((27, 0x11, 1, 0))),
-    ("a field's", &[row!(Locals { sig: &[0x06, 0x08] })], Some((27, 0x11, 1, 0))),
-    ("a method's", &[row!(Locals { sig: &[0, 0, 0x01] })], Some((27, 0x11, 1, 0))),
-    ("no count", &[row!(Locals { sig: &[0x07] })], Some((27, 0x11, 1, 1))),
-    ("void", &[row!(Locals { sig: &[0x07, 1, 0x01] })], Some((27, 0x11, 1, 2))),
-    ("a pointer", &[row!(Locals { sig: &[0x07, 1, 0x10, 0x08] })], Some((27, 0x11, 1, 2))),
-    ("a pinned one", &[row!(Locals { sig: &[0x07, 1, 0x45, 0x0E] })], Some((27, 0x11, 1, 2))),
-    ("too few", &[row!(Locals { sig: &[0x07, 2, 0x08] })], Some((27, 0x11, 1, 3))),
-    ("one that isn't there", &[row!(Locals { sig: &[0x07, 2, 0x08, 0x12, 0x15] })], Some((27, 0x11, 1, 3))),
-    ("a field handle", &[row!(Locals { sig: &[0x07, 1, 0x11, 0x21] })], Some((27, 0x11, 1, 2))),
-    ("the second row", &[row!(Locals { sig: &[0x07, 0] }), row!(Locals { sig: &[0x07, 1, 0x0D] })], Some((27, 0x11, 2, 2))),
-];
+const LOCALS: &str = "
+-: none: locals | | | | 07 00
+-: of each kind: locals | | | | 07 04 08 1D 0E 12 08 11 25
+2 27 11 1 0: no bytes: locals
+2 27 11 1 0: a field's: locals | | | | 06 08
+2 27 11 1 0: a method's: locals | | | | 00 00 01
+2 27 11 1 1: no count: locals | | | | 07
+2 27 11 1 2: void: locals | | | | 07 01 01
+2 27 11 1 2: a pointer: locals | | | | 07 01 10 08
+2 27 11 1 2: a pinned one: locals | | | | 07 01 45 0E
+2 27 11 1 3: too few: locals | | | | 07 02 08
+2 27 11 1 3: one that isn't there: locals | | | | 07 02 08 12 15
+2 27 11 1 2: a field handle: locals | | | | 07 01 11 21
+2 27 11 2 2: the second row: locals | | | | 07 00; locals | | | | 07 01 0D
+";
 
 #[test]
 fn locals(rt: HostRuntime) -> Result<(), Fail> {
-    rows_are_told(&rt, &LOCALS)
+    cases_are_told(&rt, LOCALS)
 }
 
-/// A body that makes an array of the first array type.
-const MAKE: &[u8] = &[0x22, 0x16, 0x8D, 1, 0, 0, 0x1B, 0x26, 0x2A];
-
-/// A body with a clause that names the first array type: a catch of it, or a finally.
-macro_rules! clause {
-    ($kind:expr) => {
-        &[
-            0x1B, 0x30, 1, 0, 7, 0, 0, 0, 0, 0, 0, 0, // the header
-            0x00, 0xDE, 0x03, 0x26, 0xDE, 0x00, 0x2A, 0, // the code, up to a multiple of 4
-            0x01, 0x10, 0, 0, $kind, 0, 0, 0, 3, 3, 0, 3, 1, 0, 0, 0x1B,
-        ]
-    };
-}
-
-#[rattlefmt::skip]
-const ARRAYS: [Rows; 10] = [
-    ("an array", &[row!(Spec { sig: &[0x1D, 0x12, 0x08] }), caller!(MAKE)], None),
-    ("no array that nothing names", &[row!(Spec { sig: &[0x08] })], None),
-    ("no array", &[row!(Spec { sig: &[0x08] }), caller!(MAKE)], Some((27, 0x1B, 1, 0))),
-    ("a generic instance", &[row!(Spec { sig: &[0x15, 0x12, 0x05, 1, 0x08] }), caller!(MAKE)], Some((27, 0x1B, 1, 0))),
-    ("of nothing", &[row!(Spec { sig: &[0x1D] }), caller!(MAKE)], Some((27, 0x1B, 1, 1))),
-    ("of what isn't there", &[row!(Spec { sig: &[0x1D, 0x1D, 0x12, 0x15] }), caller!(MAKE)], Some((27, 0x1B, 1, 2))),
-    ("behind references", &[member!(&[0, 0, 0x0C]), row!(Spec { sig: &[0x08] }), caller!(MAKE), method!(0x96, "B", &[0, 0, 0x01], CALL)], Some((27, 0x0A, 1, 2))),
-    ("that a catch names", &[row!(Spec { sig: &[0x08] }), caller!(clause!(0))], Some((27, 0x1B, 1, 0))),
-    ("in the place of a finally's class", &[row!(Spec { sig: &[0x08] }), caller!(clause!(2))], None),
-    ("that a signature names", &[row!(Spec { sig: &[0x1D, 0x08] }), row!(Locals { sig: &[0x07, 1, 0x12, 0x06] })], Some((27, 0x11, 1, 3))),
-];
+/// Most bodies make an array of the first array type; two have a clause that names it, a catch and a finally.
+const ARRAYS: &str = "
+-: an array: spec | | | | 1D 12 08; method | 96 | | A | 00 00 01 | 22 16 8D 01 00 00 1B 26 2A
+-: no array that nothing names: spec | | | | 08
+2 27 1B 1 0: no array: spec | | | | 08; method | 96 | | A | 00 00 01 | 22 16 8D 01 00 00 1B 26 2A
+2 27 1B 1 0: a generic instance: spec | | | | 15 12 05 01 08; method | 96 | | A | 00 00 01 | 22 16 8D 01 00 00 1B 26 2A
+2 27 1B 1 1: of nothing: spec | | | | 1D; method | 96 | | A | 00 00 01 | 22 16 8D 01 00 00 1B 26 2A
+2 27 1B 1 2: of what isn't there: spec | | | | 1D 1D 12 15; method | 96 | | A | 00 00 01 | 22 16 8D 01 00 00 1B 26 2A
+2 27 0A 1 2: behind references: member | 01000001 | | M | 00 00 0C; spec | | | | 08; method | 96 | | A | 00 00 01 | 22 16 8D 01 00 00 1B 26 2A; method | 96 | | B | 00 00 01 | 1A 28 01 00 00 0A 2A
+2 27 1B 1 0: that a catch names: spec | | | | 08; method | 96 | | A | 00 00 01 | 1B 30 01 00 07 00 00 00 00 00 00 00 00 DE 03 26 DE 00 2A 00 01 10 00 00 00 00 00 00 03 03 00 03 01 00 00 1B
+-: in the place of a finally's class: spec | | | | 08; method | 96 | | A | 00 00 01 | 1B 30 01 00 07 00 00 00 00 00 00 00 00 DE 03 26 DE 00 2A 00 01 10 00 00 02 00 00 00 03 03 00 03 01 00 00 1B
+2 27 11 1 3: that a signature names: spec | | | | 1D 08; locals | | | | 07 01 12 06
+";
 
 #[test]
 fn array_types(rt: HostRuntime) -> Result<(), Fail> {
-    rows_are_told(&rt, &ARRAYS)
+    cases_are_told(&rt, ARRAYS)
 }

@@ -1,6 +1,5 @@
 //! What is told of assemblies behind the base library.
 
-use assembly_rows::made::{Asked, Assembly, made};
 use base_lib::files;
 use cil_world::World;
 use plain_types::fault::Fault;
@@ -19,15 +18,9 @@ pub fn told(alloc: Global, all: &[Vec<u8>]) -> Result<Option<Fault>, Fail> {
     Ok(check(alloc, &world)?)
 }
 
-/// The same of assemblies behind the base library.
-pub fn told_of(
-    alloc: Global,
-    front: &[Asked<'_>],
-    assemblies: &[Assembly<'_>],
-) -> Result<Option<Fault>, Fail> {
+/// The same of a file behind the base library.
+pub fn told_of(alloc: Global, file: Vec<u8>) -> Result<Option<Fault>, Fail> {
     let mut all = files(alloc)?;
-    for assembly in assemblies {
-        all.push(made(alloc, front, assembly)?)?;
-    }
+    all.push(file)?;
     told(alloc, all.as_slice())
 }

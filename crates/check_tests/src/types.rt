@@ -1,188 +1,134 @@
 //! Rules 20, 21 and 24 to 26: rows that have to be missing, superclasses, interfaces and value types.
 
-use crate::program::{
-    A, ARRAY, B, C, DISPOSABLE, ENUM, HANDLE, INT, LIBRARY, MISSING, MODULE_TYPE, NEXT_REFERENCE,
-    OBJECT, PROGRAM, STRING, VALUE_TYPE, class, field, reference, row,
-};
-use crate::rows::{Changed, Rows, changes_are_told, rows_are_told};
-use assembly_rows::change::Change::Retable;
+use crate::cases::cases_are_told;
 use std::test::Fail;
 
-#[rattlefmt::skip]
-const SUPERCLASSES: [Rows; 34] = [
-    ("nothing else", &[], None),
-    ("a class", &[class!("A", OBJECT), class!("B", A)], None),
-    ("a superclass that isn't there", &[class!("A", MISSING)], Some((24, 0x02, 3, 0))),
-    ("one of another version", &[
-        row!(Assembly { name: "mscorlib", version: [4, 3, 0, 0] }), reference!(0x2300_0002, "System", "Object"), class!("A", NEXT_REFERENCE),
-    ], Some((24, 0x02, 3, 0))),
-    ("one of an assembly that isn't there", &[
-        row!(Assembly { name: "Absent", version: [4, 3, 1, 0] }), reference!(0x2300_0002, "System", "Object"), class!("A", NEXT_REFERENCE),
-    ], Some((24, 0x02, 3, 0))),
-    ("one in another namespace", &[reference!(LIBRARY, "Systems", "Object"), class!("A", NEXT_REFERENCE)], Some((24, 0x02, 3, 0))),
-    ("one whose scope is the module", &[reference!(0x0000_0001, "", "Program"), class!("A", NEXT_REFERENCE)], Some((24, 0x02, 3, 0))),
-    ("one inside itself", &[reference!(NEXT_REFERENCE, "", "Program"), class!("A", NEXT_REFERENCE)], Some((24, 0x02, 3, 0))),
-    ("two inside one another", &[reference!(0x0100_000B, "", "Program"), reference!(NEXT_REFERENCE, "", "Program"), class!("A", NEXT_REFERENCE)], Some((24, 0x02, 3, 0))),
-    ("an array", &[row!(Spec { sig: &[0x1D, 0x08] }), class!("A", 0x1B00_0001)], Some((24, 0x02, 3, 0))),
-    ("an interface", &[class!("A", DISPOSABLE)], Some((24, 0x02, 3, 0))),
-    ("an interface of the file", &[class!(0xA1, "A", 0), class!("B", A)], Some((24, 0x02, 4, 0))),
-    ("none", &[class!("A", 0)], Some((24, 0x02, 3, 0))),
-    ("none of a type of the base library's names", &[class!(0x0010_0001, "System", "Object", 0)], Some((24, 0x02, 3, 0))),
-    ("an interface that extends a class", &[class!(0xA1, "A", OBJECT)], Some((24, 0x02, 3, 0))),
-    ("an interface that extends nothing", &[class!(0xA1, "A", 0)], None),
-    ("String", &[class!("A", STRING)], Some((24, 0x02, 3, 0))),
-    ("Array", &[class!("A", ARRAY)], Some((24, 0x02, 3, 0))),
-    ("a number", &[class!("A", INT)], Some((24, 0x02, 3, 0))),
-    ("a value type of the library", &[class!("A", HANDLE)], Some((24, 0x02, 3, 0))),
-    ("an enum", &[class!(0x101, "A", ENUM), field!(0x606, &[0x06, 0x08]), class!("B", A)], Some((24, 0x02, 4, 0))),
-    ("a data type", &[class!(0x101, "A", VALUE_TYPE), row!(Layout { size: 4, class: A }), class!("B", A)], Some((24, 0x02, 4, 0))),
-    ("<Module>", &[class!("A", MODULE_TYPE)], None),
-    ("<Module> in a namespace extends nothing", &[class!(1, "Ns", "<Module>", 0)], Some((24, 0x02, 3, 0))),
-    ("a nested <Module> extends nothing", &[class!(2, "<Module>", 0), row!(Nested { nested: A, enclosing: PROGRAM })], Some((24, 0x02, 3, 0))),
-    ("itself", &[class!("A", A)], Some((24, 0x02, 3, 0))),
-    ("a circle of two", &[class!("A", B), class!("B", A)], Some((24, 0x02, 3, 0))),
-    ("a circle of three", &[class!("A", B), class!("B", C), class!("C", A)], Some((24, 0x02, 3, 0))),
-    ("a way into a circle", &[class!("A", B), class!("B", B)], Some((24, 0x02, 3, 0))),
-    ("a circle behind a class", &[class!("A", OBJECT), class!("B", C), class!("C", B)], Some((24, 0x02, 4, 0))),
-    ("a class of the file that comes later", &[class!("A", B), class!("B", OBJECT)], None),
-    ("a class of the library", &[reference!(LIBRARY, "System", "Exception"), class!("A", NEXT_REFERENCE)], None),
-    ("the table's first row", &[class!("A", MISSING), class!("Program", OBJECT)], Some((24, 0x02, 3, 0))),
-    ("the row's lower rule", &[class!("Program", MISSING)], Some((24, 0x02, 3, 0))),
-];
+const SUPERCLASSES: &str = "
+-: nothing else
+-: a class: type | 100001 | 01000001 | A; type | 100001 | 02000003 | B
+2 24 02 3 0: a superclass that isn't there: type | 100001 | 01000005 | A
+2 24 02 3 0: one of another version: assembly | | | mscorlib | 04 03 00 00; reference | 23000002 | | System Object; type | 100001 | 0100000A | A
+2 24 02 3 0: one of an assembly that isn't there: assembly | | | Absent; reference | 23000002 | | System Object; type | 100001 | 0100000A | A
+2 24 02 3 0: one in another namespace: reference | 23000001 | | Systems Object; type | 100001 | 0100000A | A
+2 24 02 3 0: one whose scope is the module: reference | 00000001 | | Program; type | 100001 | 0100000A | A
+2 24 02 3 0: one inside itself: reference | 0100000A | | Program; type | 100001 | 0100000A | A
+2 24 02 3 0: two inside one another: reference | 0100000B | | Program; reference | 0100000A | | Program; type | 100001 | 0100000A | A
+2 24 02 3 0: an array: spec | | | | 1D 08; type | 100001 | 1B000001 | A
+2 24 02 3 0: an interface: type | 100001 | 01000006 | A
+2 24 02 4 0: an interface of the file: type | A1 | | A; type | 100001 | 02000003 | B
+2 24 02 3 0: none: type | 100001 | | A
+2 24 02 3 0: none of a type of the base library's names: type | 100001 | | System Object
+2 24 02 3 0: an interface that extends a class: type | A1 | 01000001 | A
+-: an interface that extends nothing: type | A1 | | A
+2 24 02 3 0: String: type | 100001 | 01000004 | A
+2 24 02 3 0: Array: type | 100001 | 01000007 | A
+2 24 02 3 0: a number: type | 100001 | 01000009 | A
+2 24 02 3 0: a value type of the library: type | 100001 | 01000008 | A
+2 24 02 4 0: an enum: type | 101 | 01000003 | A; field | 606 | | field | 06 08; type | 100001 | 02000003 | B
+2 24 02 4 0: a data type: type | 101 | 01000002 | A; layout | 4 | 02000003; type | 100001 | 02000003 | B
+-: <Module>: type | 100001 | 02000001 | A
+2 24 02 3 0: <Module> in a namespace extends nothing: type | 1 | | Ns <Module>
+2 24 02 3 0: a nested <Module> extends nothing: type | 2 | | <Module>; nested | 02000003 | 02000002
+2 24 02 3 0: itself: type | 100001 | 02000003 | A
+2 24 02 3 0: a circle of two: type | 100001 | 02000004 | A; type | 100001 | 02000003 | B
+2 24 02 3 0: a circle of three: type | 100001 | 02000004 | A; type | 100001 | 02000005 | B; type | 100001 | 02000003 | C
+2 24 02 3 0: a way into a circle: type | 100001 | 02000004 | A; type | 100001 | 02000004 | B
+2 24 02 4 0: a circle behind a class: type | 100001 | 01000001 | A; type | 100001 | 02000005 | B; type | 100001 | 02000004 | C
+-: a class of the file that comes later: type | 100001 | 02000004 | A; type | 100001 | 01000001 | B
+-: a class of the library: reference | 23000001 | | System Exception; type | 100001 | 0100000A | A
+2 24 02 3 0: the table's first row: type | 100001 | 01000005 | A; type | 100001 | 01000001 | Program
+2 24 02 3 0: the row's lower rule: type | 100001 | 01000005 | Program
+";
 
 #[test]
 fn superclasses(rt: HostRuntime) -> Result<(), Fail> {
-    rows_are_told(&rt, &SUPERCLASSES)
+    cases_are_told(&rt, SUPERCLASSES)
 }
 
-#[rattlefmt::skip]
-const INTERFACES: [Rows; 12] = [
-    ("an interface", &[row!(Interface { class: PROGRAM, interface: DISPOSABLE })], None),
-    ("the same twice", &[row!(Interface { class: PROGRAM, interface: DISPOSABLE }), row!(Interface { class: PROGRAM, interface: DISPOSABLE })], None),
-    ("a class", &[row!(Interface { class: PROGRAM, interface: OBJECT })], Some((25, 0x09, 1, 0))),
-    ("itself, a class", &[row!(Interface { class: PROGRAM, interface: PROGRAM })], Some((25, 0x09, 1, 0))),
-    ("one that isn't there", &[row!(Interface { class: PROGRAM, interface: MISSING })], Some((25, 0x09, 1, 0))),
-    ("an array", &[row!(Spec { sig: &[0x1D, 0x08] }), row!(Interface { class: PROGRAM, interface: 0x1B00_0001 })], Some((25, 0x09, 1, 0))),
-    ("the second row", &[row!(Interface { class: PROGRAM, interface: DISPOSABLE }), row!(Interface { class: PROGRAM, interface: STRING })], Some((25, 0x09, 2, 0))),
-    ("a circle of one", &[class!(0xA1, "A", 0), row!(Interface { class: A, interface: A })], Some((25, 0x09, 1, 0))),
-    ("a circle of two", &[
-        class!(0xA1, "A", 0), class!(0xA1, "B", 0), row!(Interface { class: A, interface: B }), row!(Interface { class: B, interface: A }),
-    ], Some((25, 0x09, 1, 0))),
-    ("a way into a circle", &[
-        class!(0xA1, "A", 0), class!(0xA1, "B", 0), row!(Interface { class: PROGRAM, interface: DISPOSABLE }),
-        row!(Interface { class: A, interface: B }), row!(Interface { class: B, interface: B }),
-    ], Some((25, 0x09, 2, 0))),
-    ("a class into a circle", &[
-        class!(0xA1, "A", 0), row!(Interface { class: PROGRAM, interface: A }), row!(Interface { class: A, interface: A }),
-    ], Some((25, 0x09, 1, 0))),
-    ("two ways to one interface", &[
-        class!(0xA1, "A", 0), class!(0xA1, "B", 0), row!(Interface { class: A, interface: DISPOSABLE }),
-        row!(Interface { class: B, interface: DISPOSABLE }), row!(Interface { class: B, interface: A }),
-        row!(Interface { class: PROGRAM, interface: B }),
-    ], None),
-];
+const INTERFACES: &str = "
+-: an interface: interface | 02000002 | 01000006
+-: the same twice: interface | 02000002 | 01000006; interface | 02000002 | 01000006
+2 25 09 1 0: a class: interface | 02000002 | 01000001
+2 25 09 1 0: itself, a class: interface | 02000002 | 02000002
+2 25 09 1 0: one that isn't there: interface | 02000002 | 01000005
+2 25 09 1 0: an array: spec | | | | 1D 08; interface | 02000002 | 1B000001
+2 25 09 2 0: the second row: interface | 02000002 | 01000006; interface | 02000002 | 01000004
+2 25 09 1 0: a circle of one: type | A1 | | A; interface | 02000003 | 02000003
+2 25 09 1 0: a circle of two: type | A1 | | A; type | A1 | | B; interface | 02000003 | 02000004; interface | 02000004 | 02000003
+2 25 09 2 0: a way into a circle: type | A1 | | A; type | A1 | | B; interface | 02000002 | 01000006; interface | 02000003 | 02000004; interface | 02000004 | 02000004
+2 25 09 1 0: a class into a circle: type | A1 | | A; interface | 02000002 | 02000003; interface | 02000003 | 02000003
+-: two ways to one interface: type | A1 | | A; type | A1 | | B; interface | 02000003 | 01000006; interface | 02000004 | 01000006; interface | 02000004 | 02000003; interface | 02000002 | 02000004
+";
 
 #[test]
 fn interfaces(rt: HostRuntime) -> Result<(), Fail> {
-    rows_are_told(&rt, &INTERFACES)
+    cases_are_told(&rt, INTERFACES)
 }
 
-#[rattlefmt::skip]
-const VALUES: [Rows; 19] = [
-    ("a struct", &[class!(0x109, "A", VALUE_TYPE), field!(0x06, &[0x06, 0x08])], Some((26, 0x02, 3, 0))),
-    ("a struct without fields", &[class!(0x109, "A", VALUE_TYPE)], Some((26, 0x02, 3, 0))),
-    ("a struct with a size", &[class!(0x109, "A", VALUE_TYPE), field!(0x06, &[0x06, 0x08]), row!(Layout { size: 4, class: A })], Some((26, 0x02, 3, 0))),
-    ("a data type", &[class!(0x109, "A", VALUE_TYPE), row!(Layout { size: 4, class: A })], None),
-    ("a data type with a static field", &[class!(0x109, "A", VALUE_TYPE), field!(0x16, &[0x06, 0x08]), row!(Layout { size: 4, class: A })], Some((26, 0x02, 3, 0))),
-    ("an enum", &[class!(0x101, "A", ENUM), field!(0x606, &[0x06, 0x08]), field!(0x8056, "One", &[0x06, 0x11, 0x0C], &[])], None),
-    ("an enum of longs", &[class!(0x101, "A", ENUM), field!(0x606, &[0x06, 0x0B])], None),
-    ("an enum without a number", &[class!(0x101, "A", ENUM)], Some((26, 0x02, 3, 0))),
-    ("an enum with constants alone", &[class!(0x101, "A", ENUM), field!(0x8056, &[0x06, 0x08])], Some((26, 0x02, 3, 0))),
-    ("an enum of two numbers", &[class!(0x101, "A", ENUM), field!(0x606, &[0x06, 0x08]), field!(0x606, "other", &[0x06, 0x08], &[])], Some((26, 0x02, 3, 0))),
-    ("an enum of bool", &[class!(0x101, "A", ENUM), field!(0x606, &[0x06, 0x02])], Some((26, 0x02, 3, 0))),
-    ("an enum of char", &[class!(0x101, "A", ENUM), field!(0x606, &[0x06, 0x03])], Some((26, 0x02, 3, 0))),
-    ("an enum of string", &[class!(0x101, "A", ENUM), field!(0x606, &[0x06, 0x0E])], Some((26, 0x02, 3, 0))),
-    ("an enum of Int32 by name", &[class!(0x101, "A", ENUM), field!(0x606, &[0x06, 0x11, 0x25])], Some((26, 0x02, 3, 0))),
-    ("explicit layout", &[class!(0x0010_0011, "A", OBJECT), field!(0x06, &[0x06, 0x08])], Some((26, 0x02, 3, 0))),
-    ("explicit layout of static fields", &[class!(0x0010_0011, "A", OBJECT), field!(0x16, &[0x06, 0x08])], None),
-    ("sequential layout", &[class!(0x0010_0009, "A", OBJECT), field!(0x06, &[0x06, 0x08])], None),
-    ("a value type before a superclass that isn't there", &[class!(0x101, "A", ENUM), class!("B", MISSING)], Some((26, 0x02, 3, 0))),
-    ("a superclass that isn't there before a value type", &[class!("A", MISSING), class!(0x101, "B", ENUM)], Some((24, 0x02, 3, 0))),
-];
+const VALUES: &str = "
+2 26 02 3 0: a struct: type | 109 | 01000002 | A; field | 6 | | field | 06 08
+2 26 02 3 0: a struct without fields: type | 109 | 01000002 | A
+2 26 02 3 0: a struct with a size: type | 109 | 01000002 | A; field | 6 | | field | 06 08; layout | 4 | 02000003
+-: a data type: type | 109 | 01000002 | A; layout | 4 | 02000003
+2 26 02 3 0: a data type with a static field: type | 109 | 01000002 | A; field | 16 | | field | 06 08; layout | 4 | 02000003
+-: an enum: type | 101 | 01000003 | A; field | 606 | | field | 06 08; field | 8056 | | One | 06 11 0C
+-: an enum of longs: type | 101 | 01000003 | A; field | 606 | | field | 06 0B
+2 26 02 3 0: an enum without a number: type | 101 | 01000003 | A
+2 26 02 3 0: an enum with constants alone: type | 101 | 01000003 | A; field | 8056 | | field | 06 08
+2 26 02 3 0: an enum of two numbers: type | 101 | 01000003 | A; field | 606 | | field | 06 08; field | 606 | | other | 06 08
+2 26 02 3 0: an enum of bool: type | 101 | 01000003 | A; field | 606 | | field | 06 02
+2 26 02 3 0: an enum of char: type | 101 | 01000003 | A; field | 606 | | field | 06 03
+2 26 02 3 0: an enum of string: type | 101 | 01000003 | A; field | 606 | | field | 06 0E
+2 26 02 3 0: an enum of Int32 by name: type | 101 | 01000003 | A; field | 606 | | field | 06 11 25
+2 26 02 3 0: explicit layout: type | 100011 | 01000001 | A; field | 6 | | field | 06 08
+-: explicit layout of static fields: type | 100011 | 01000001 | A; field | 16 | | field | 06 08
+-: sequential layout: type | 100009 | 01000001 | A; field | 6 | | field | 06 08
+2 26 02 3 0: a value type before a superclass that isn't there: type | 101 | 01000003 | A; type | 100001 | 01000005 | B
+2 24 02 3 0: a superclass that isn't there before a value type: type | 100001 | 01000005 | A; type | 101 | 01000003 | B
+";
 
 #[test]
 fn value_types(rt: HostRuntime) -> Result<(), Fail> {
-    rows_are_told(&rt, &VALUES)
+    cases_are_told(&rt, VALUES)
 }
 
-#[rattlefmt::skip]
-const NAMES: [Rows; 13] = [
-    ("a name that an earlier type has", &[class!("Program", OBJECT)], Some((26, 0x02, 3, 0))),
-    ("the name in another namespace", &[class!(1, "Ns", "Program", OBJECT)], None),
-    ("a name of other letters", &[class!("program", OBJECT)], None),
-    ("a name of the library", &[class!(1, "System", "Object", OBJECT)], None),
-    ("a second <Module>", &[class!(0, "<Module>", 0)], Some((26, 0x02, 3, 0))),
-    ("the name inside the type", &[class!(2, "Program", OBJECT), row!(Nested { nested: A, enclosing: PROGRAM })], None),
-    ("twice inside one type", &[
-        class!(2, "A", OBJECT), class!(2, "A", OBJECT), row!(Nested { nested: A, enclosing: PROGRAM }),
-        row!(Nested { nested: B, enclosing: PROGRAM }),
-    ], Some((26, 0x02, 4, 0))),
-    ("inside two types", &[
-        class!(2, "A", OBJECT), class!(2, "A", OBJECT), row!(Nested { nested: A, enclosing: PROGRAM }), row!(Nested { nested: B, enclosing: A }),
-    ], None),
-    ("inside itself", &[class!(2, "A", OBJECT), row!(Nested { nested: A, enclosing: A })], Some((26, 0x02, 3, 0))),
-    ("two inside one another", &[
-        class!(2, "A", OBJECT), class!(2, "B", OBJECT), row!(Nested { nested: A, enclosing: B }), row!(Nested { nested: B, enclosing: A }),
-    ], Some((26, 0x02, 3, 0))),
-    ("a way into a circle", &[
-        class!(2, "A", OBJECT), class!(2, "B", OBJECT), row!(Nested { nested: A, enclosing: B }), row!(Nested { nested: B, enclosing: B }),
-    ], Some((26, 0x02, 3, 0))),
-    ("the first of two rows", &[class!(2, "A", OBJECT), row!(Nested { nested: A, enclosing: PROGRAM }), row!(Nested { nested: A, enclosing: A })], None),
-    ("the first of two rows, a circle", &[
-        class!(2, "A", OBJECT), row!(Nested { nested: A, enclosing: A }), row!(Nested { nested: A, enclosing: PROGRAM }),
-    ], Some((26, 0x02, 3, 0))),
-];
+const NAMES: &str = "
+2 26 02 3 0: a name that an earlier type has: type | 100001 | 01000001 | Program
+-: the name in another namespace: type | 1 | 01000001 | Ns Program
+-: a name of other letters: type | 100001 | 01000001 | program
+-: a name of the library: type | 1 | 01000001 | System Object
+2 26 02 3 0: a second <Module>: type | 0 | | <Module>
+-: the name inside the type: type | 2 | 01000001 | Program; nested | 02000003 | 02000002
+2 26 02 4 0: twice inside one type: type | 2 | 01000001 | A; type | 2 | 01000001 | A; nested | 02000003 | 02000002; nested | 02000004 | 02000002
+-: inside two types: type | 2 | 01000001 | A; type | 2 | 01000001 | A; nested | 02000003 | 02000002; nested | 02000004 | 02000003
+2 26 02 3 0: inside itself: type | 2 | 01000001 | A; nested | 02000003 | 02000003
+2 26 02 3 0: two inside one another: type | 2 | 01000001 | A; type | 2 | 01000001 | B; nested | 02000003 | 02000004; nested | 02000004 | 02000003
+2 26 02 3 0: a way into a circle: type | 2 | 01000001 | A; type | 2 | 01000001 | B; nested | 02000003 | 02000004; nested | 02000004 | 02000004
+-: the first of two rows: type | 2 | 01000001 | A; nested | 02000003 | 02000002; nested | 02000003 | 02000003
+2 26 02 3 0: the first of two rows, a circle: type | 2 | 01000001 | A; nested | 02000003 | 02000003; nested | 02000003 | 02000002
+";
 
 #[test]
 fn names_of_types(rt: HostRuntime) -> Result<(), Fail> {
-    rows_are_told(&rt, &NAMES)
+    cases_are_told(&rt, NAMES)
 }
 
 /// Three signatures of no locals have the six bytes of one row of other tables, and a row on nesting the four of others.
-#[rattlefmt::skip]
-const TABLES: [Changed; 11] = [
-    ("an overriding", &[row!(Locals { sig: &[0x07, 0] }), row!(Locals { sig: &[0x07, 0] }), row!(Locals { sig: &[0x07, 0] })], &[
-        Retable { from: 0x11, to: 0x19, rows: 1 },
-    ], Some((21, 0x19, 1, 0))),
-    ("a generic parameter", &[row!(Nested { nested: PROGRAM, enclosing: PROGRAM }), row!(Nested { nested: PROGRAM, enclosing: PROGRAM })], &[
-        Retable { from: 0x29, to: 0x2A, rows: 1 },
-    ], Some((20, 0x2A, 1, 0))),
-    ("an instance of a method", &[row!(Nested { nested: PROGRAM, enclosing: PROGRAM })], &[Retable { from: 0x29, to: 0x2B, rows: 1 }], Some((20, 0x2B, 1, 0))),
-    ("a constraint", &[row!(Nested { nested: PROGRAM, enclosing: PROGRAM })], &[Retable { from: 0x29, to: 0x2C, rows: 1 }], Some((20, 0x2C, 1, 0))),
-    ("an overriding and a constraint", &[
-        row!(Locals { sig: &[0x07, 0] }), row!(Locals { sig: &[0x07, 0] }), row!(Locals { sig: &[0x07, 0] }),
-        row!(Nested { nested: PROGRAM, enclosing: PROGRAM }),
-    ], &[Retable { from: 0x11, to: 0x19, rows: 1 }, Retable { from: 0x29, to: 0x2C, rows: 1 }], Some((21, 0x19, 1, 0))),
-    ("a constraint and a class", &[class!("A", MISSING), row!(Nested { nested: PROGRAM, enclosing: PROGRAM })], &[
-        Retable { from: 0x29, to: 0x2C, rows: 1 },
-    ], Some((24, 0x02, 3, 0))),
-    ("an overriding and an interface", &[
-        row!(Interface { class: PROGRAM, interface: MISSING }), row!(Locals { sig: &[0x07, 0] }), row!(Locals { sig: &[0x07, 0] }),
-        row!(Locals { sig: &[0x07, 0] }),
-    ], &[Retable { from: 0x11, to: 0x19, rows: 1 }], Some((25, 0x09, 1, 0))),
-    ("an attribute whose class isn't there", &[row!(Member { parent: MISSING, name: ".ctor", sig: &[0x20, 0, 0x01] })], &[
-        Retable { from: 0x0A, to: 0x0C, rows: 1 },
-    ], None),
-    ("a constant", &[row!(Member { parent: MISSING, name: ".ctor", sig: &[0x20, 0, 0x01] })], &[Retable { from: 0x0A, to: 0x0B, rows: 1 }], None),
-    ("an event", &[row!(Locals { sig: &[0x07, 0] }), row!(Locals { sig: &[0x07, 0] }), row!(Locals { sig: &[0x07, 0] })], &[
-        Retable { from: 0x11, to: 0x14, rows: 1 },
-    ], None),
-    ("a property", &[row!(Locals { sig: &[0x07, 0] }), row!(Locals { sig: &[0x07, 0] }), row!(Locals { sig: &[0x07, 0] })], &[
-        Retable { from: 0x11, to: 0x17, rows: 1 },
-    ], None),
-];
+const TABLES: &str = "
+2 21 19 1 0: an overriding: locals | | | | 07 00; locals | | | | 07 00; locals | | | | 07 00: retable | 11 | 19 | 1
+2 20 2A 1 0: a generic parameter: nested | 02000002 | 02000002; nested | 02000002 | 02000002: retable | 29 | 2A | 1
+2 20 2B 1 0: an instance of a method: nested | 02000002 | 02000002: retable | 29 | 2B | 1
+2 20 2C 1 0: a constraint: nested | 02000002 | 02000002: retable | 29 | 2C | 1
+2 21 19 1 0: an overriding and a constraint: locals | | | | 07 00; locals | | | | 07 00; locals | | | | 07 00; nested | 02000002 | 02000002: retable | 11 | 19 | 1; retable | 29 | 2C | 1
+2 24 02 3 0: a constraint and a class: type | 100001 | 01000005 | A; nested | 02000002 | 02000002: retable | 29 | 2C | 1
+2 25 09 1 0: an overriding and an interface: interface | 02000002 | 01000005; locals | | | | 07 00; locals | | | | 07 00; locals | | | | 07 00: retable | 11 | 19 | 1
+-: an attribute whose class isn't there: member | 01000005 | | .ctor | 20 00 01: retable | 0A | 0C | 1
+-: a constant: member | 01000005 | | .ctor | 20 00 01: retable | 0A | 0B | 1
+-: an event: locals | | | | 07 00; locals | | | | 07 00; locals | | | | 07 00: retable | 11 | 14 | 1
+-: a property: locals | | | | 07 00; locals | | | | 07 00; locals | | | | 07 00: retable | 11 | 17 | 1
+";
 
 #[test]
 fn tables_that_have_to_be_missing(rt: HostRuntime) -> Result<(), Fail> {
-    changes_are_told(&rt, &TABLES)
+    cases_are_told(&rt, TABLES)
 }

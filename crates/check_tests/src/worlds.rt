@@ -1,99 +1,94 @@
 //! What is told of several files: names of assemblies, references between them, and the order of files and phases.
 
-use crate::program::{
-    A, B, FRONT, LIBRARY, MAIN, MISSING, NEXT_REFERENCE, OBJECT, class, field, reference, row,
-};
-use crate::rows::{Told, fault};
-use crate::told::told_of;
-use assembly_rows::made::Assembly;
+use crate::cases::fault_of;
+use crate::program::FRONT;
+use crate::told::told;
+use assembly_rows::lines::{Assembly, made};
+use base_lib::files;
+use case_text::{Line, lines_of};
 use plain_types::fault::Fault;
+use std::alloc::Global;
+use std::process::Abort;
 use std::test::Fail;
 
-/// An assembly that isn't changed.
-macro_rules! assembly {
-    ($name:expr, $entry:expr, $rows:expr) => {
-        Assembly { name: $name, entry: $entry, rows: $rows, changes: &[] }
+/// Files behind the base library, with `/` between them: each its name and its entry, and rows.
+const FILES: &str = "
+-: two: App | 06000001 / Lib | 00000000
+3 22 20 1 0: one name: App | 06000001 / App | 00000000
+4 22 20 1 0: one name, not side by side: App | 06000001 / Lib | 00000000 / App | 00000000
+-: other letters: App | 06000001 / app | 00000000
+2 22 20 1 0: the library's name: mscorlib | 06000001
+2 22 20 1 0: the other library's name: Microsoft.SPOT.Native | 06000001
+-: a class of the other: App | 06000001; assembly | | | Lib | 01 00 00 00; reference | 23000002 | | A; type | 100001 | 0100000A | A / Lib | 00000000; type | 100001 | 01000001 | A
+-: a class of the one before: Lib | 00000000; type | 100001 | 01000001 | A / App | 06000001; assembly | | | Lib | 01 00 00 00; reference | 23000002 | | A; type | 100001 | 0100000A | A
+2 24 02 3 0: another version of it: App | 06000001; assembly | | | Lib | 01 00 00 01; reference | 23000002 | | A; type | 100001 | 0100000A | A / Lib | 00000000; type | 100001 | 01000001 | A
+-: itself by name: App | 06000001; assembly | | | App | 01 00 00 00; reference | 23000002 | | Program; type | 100001 | 0100000A | A
+-: a class inside one of the other: App | 06000001; assembly | | | Lib | 01 00 00 00; reference | 23000002 | | A; reference | 0100000A | | B; type | 100001 | 0100000B | A / Lib | 00000000; type | 100001 | 01000001 | A; type | 2 | 01000001 | B; nested | 02000004 | 02000003
+2 24 02 3 0: the same without what encloses it: App | 06000001; assembly | | | Lib | 01 00 00 00; reference | 23000002 | | B; type | 100001 | 0100000A | A / Lib | 00000000; type | 100001 | 01000001 | A; type | 2 | 01000001 | B; nested | 02000004 | 02000003
+2 24 02 3 0: a circle of superclasses: App | 06000001; assembly | | | Lib | 01 00 00 00; reference | 23000002 | | B; type | 100001 | 0100000A | A / Lib | 00000000; assembly | | | App | 01 00 00 00; reference | 23000002 | | A; type | 100001 | 0100000A | B
+2 25 09 1 0: a circle of interfaces: App | 06000001; assembly | | | Lib | 01 00 00 00; reference | 23000002 | | B; type | A1 | | A; interface | 02000003 | 0100000A / Lib | 00000000; assembly | | | App | 01 00 00 00; reference | 23000002 | | A; type | A1 | | B; interface | 02000003 | 0100000A
+-: the library's other assembly: App | 06000001; assembly | | | Microsoft.SPOT.Native; reference | 23000002 | | Microsoft.SPOT Debug; type | 100001 | 0100000A | A
+2 24 02 3 0: its class in the wrong one: App | 06000001; reference | 23000001 | | Microsoft.SPOT Debug; type | 100001 | 0100000A | A
+3 24 02 3 0: a member in the first, a class in the second: App | 06000001; field | 16 | | field | 06 0C / Lib | 00000000; type | 100001 | 01000005 | A
+3 23 FF 0 0: a member in the first, no entry: App | 00000000; field | 16 | | field | 06 0C / Lib | 00000000
+2 30 04 2 0: a member in each: App | 06000001; field | 16 | | field | 06 08; field | 16 | | field | 06 08 / Lib | 00000000; field | 16 | | field | 06 0C
+3 27 04 1 1: a member in the second: App | 06000001 / Lib | 00000000; field | 16 | | field | 06 0C
+";
+
+/// The file of an assembly that isn't changed.
+fn file_of(alloc: Global, text: &str) -> Result<Vec<u8>, Fail> {
+    let (head, rows) = match text.split_once(';') {
+        Some(pair) => pair,
+        None => (text, ""),
     };
+    let head = Line::of(alloc, head, '|')?;
+    let assembly = Assembly {
+        name: head.text(0),
+        entry: head.hex(1)?,
+        front: FRONT,
+        rows,
+        changes: "",
+    };
+    made(alloc, &assembly)
 }
 
-/// The first assembly reference that a test adds.
-const OTHER: u32 = 0x2300_0002;
-
-/// The second reference to a type that a test adds.
-const SECOND: u32 = 0x0100_000B;
-
-/// Files behind the base library, and what is told: file, rule, table, row and offset.
-type Files = (
-    &'static str,
-    &'static [Assembly<'static>],
-    Option<(u16, Told)>,
-);
-
-#[rattlefmt::skip]
-const FILES: [Files; 20] = [
-    ("two", &[assembly!("App", MAIN, &[]), assembly!("Lib", 0, &[])], None),
-    ("one name", &[assembly!("App", MAIN, &[]), assembly!("App", 0, &[])], Some((3, (22, 0x20, 1, 0)))),
-    ("one name, not side by side", &[assembly!("App", MAIN, &[]), assembly!("Lib", 0, &[]), assembly!("App", 0, &[])], Some((4, (22, 0x20, 1, 0)))),
-    ("other letters", &[assembly!("App", MAIN, &[]), assembly!("app", 0, &[])], None),
-    ("the library's name", &[assembly!("mscorlib", MAIN, &[])], Some((2, (22, 0x20, 1, 0)))),
-    ("the other library's name", &[assembly!("Microsoft.SPOT.Native", MAIN, &[])], Some((2, (22, 0x20, 1, 0)))),
-    ("a class of the other", &[
-        assembly!("App", MAIN, &[row!(Assembly { name: "Lib", version: [1, 0, 0, 0] }), reference!(OTHER, "", "A"), class!("A", NEXT_REFERENCE)]),
-        assembly!("Lib", 0, &[class!("A", OBJECT)]),
-    ], None),
-    ("a class of the one before", &[
-        assembly!("Lib", 0, &[class!("A", OBJECT)]),
-        assembly!("App", MAIN, &[row!(Assembly { name: "Lib", version: [1, 0, 0, 0] }), reference!(OTHER, "", "A"), class!("A", NEXT_REFERENCE)]),
-    ], None),
-    ("another version of it", &[
-        assembly!("App", MAIN, &[row!(Assembly { name: "Lib", version: [1, 0, 0, 1] }), reference!(OTHER, "", "A"), class!("A", NEXT_REFERENCE)]),
-        assembly!("Lib", 0, &[class!("A", OBJECT)]),
-    ], Some((2, (24, 0x02, 3, 0)))),
-    ("itself by name", &[
-        assembly!("App", MAIN, &[row!(Assembly { name: "App", version: [1, 0, 0, 0] }), reference!(OTHER, "", "Program"), class!("A", NEXT_REFERENCE)]),
-    ], None),
-    ("a class inside one of the other", &[
-        assembly!("App", MAIN, &[row!(Assembly { name: "Lib", version: [1, 0, 0, 0] }), reference!(OTHER, "", "A"), reference!(NEXT_REFERENCE, "", "B"), class!("A", SECOND)]),
-        assembly!("Lib", 0, &[class!("A", OBJECT), class!(2, "B", OBJECT), row!(Nested { nested: B, enclosing: A })]),
-    ], None),
-    ("the same without what encloses it", &[
-        assembly!("App", MAIN, &[row!(Assembly { name: "Lib", version: [1, 0, 0, 0] }), reference!(OTHER, "", "B"), class!("A", NEXT_REFERENCE)]),
-        assembly!("Lib", 0, &[class!("A", OBJECT), class!(2, "B", OBJECT), row!(Nested { nested: B, enclosing: A })]),
-    ], Some((2, (24, 0x02, 3, 0)))),
-    ("a circle of superclasses", &[
-        assembly!("App", MAIN, &[row!(Assembly { name: "Lib", version: [1, 0, 0, 0] }), reference!(OTHER, "", "B"), class!("A", NEXT_REFERENCE)]),
-        assembly!("Lib", 0, &[row!(Assembly { name: "App", version: [1, 0, 0, 0] }), reference!(OTHER, "", "A"), class!("B", NEXT_REFERENCE)]),
-    ], Some((2, (24, 0x02, 3, 0)))),
-    ("a circle of interfaces", &[
-        assembly!("App", MAIN, &[row!(Assembly { name: "Lib", version: [1, 0, 0, 0] }), reference!(OTHER, "", "B"), class!(0xA1, "A", 0), row!(Interface { class: A, interface: NEXT_REFERENCE })]),
-        assembly!("Lib", 0, &[row!(Assembly { name: "App", version: [1, 0, 0, 0] }), reference!(OTHER, "", "A"), class!(0xA1, "B", 0), row!(Interface { class: A, interface: NEXT_REFERENCE })]),
-    ], Some((2, (25, 0x09, 1, 0)))),
-    ("the library's other assembly", &[
-        assembly!("App", MAIN, &[row!(Assembly { name: "Microsoft.SPOT.Native", version: [4, 3, 1, 0] }), reference!(OTHER, "Microsoft.SPOT", "Debug"), class!("A", NEXT_REFERENCE)]),
-    ], None),
-    ("its class in the wrong one", &[assembly!("App", MAIN, &[reference!(LIBRARY, "Microsoft.SPOT", "Debug"), class!("A", NEXT_REFERENCE)])], Some((2, (24, 0x02, 3, 0)))),
-    ("a member in the first, a class in the second", &[
-        assembly!("App", MAIN, &[field!(0x16, &[0x06, 0x0C])]), assembly!("Lib", 0, &[class!("A", MISSING)]),
-    ], Some((3, (24, 0x02, 3, 0)))),
-    ("a member in the first, no entry", &[assembly!("App", 0, &[field!(0x16, &[0x06, 0x0C])]), assembly!("Lib", 0, &[])], Some((3, (23, 255, 0, 0)))),
-    ("a member in each", &[
-        assembly!("App", MAIN, &[field!(0x16, &[0x06, 0x08]), field!(0x16, &[0x06, 0x08])]), assembly!("Lib", 0, &[field!(0x16, &[0x06, 0x0C])]),
-    ], Some((2, (30, 0x04, 2, 0)))),
-    ("a member in the second", &[assembly!("App", MAIN, &[]), assembly!("Lib", 0, &[field!(0x16, &[0x06, 0x0C])])], Some((3, (27, 0x04, 1, 1)))),
-];
-
-fn told_in(want: Option<(u16, Told)>) -> Option<Fault> {
-    match want {
-        Some((file, told)) => Some(fault(file, told)),
-        None => None,
+fn told_of_files(alloc: Global, text: &str) -> Result<Option<Fault>, Fail> {
+    let mut all = files(alloc)?;
+    for file in text.split('/') {
+        all.push(file_of(alloc, file)?)?;
     }
+    told(alloc, all.as_slice())
+}
+
+fn files_are_told(rt: &(impl Abort + AllocGlobal), cases: &str) -> Result<(), Fail> {
+    let alloc = rt.alloc();
+    let lines = lines_of(alloc, cases, ':')?;
+    for line in lines.as_slice() {
+        let told = told_of_files(alloc, line.text(2))?;
+        assert_eq!(rt; told, fault_of(alloc, line)?, "{}", line.text(1));
+    }
+    Ok(())
 }
 
 #[test]
 fn files_together(rt: HostRuntime) -> Result<(), Fail> {
-    for (name, assemblies, want) in FILES {
-        let told = told_of(rt.alloc(), &FRONT, assemblies)?;
-        assert_eq!(rt; told, told_in(want), "{name}");
-    }
-    Ok(())
+    files_are_told(&rt, FILES)
+}
+
+/// A file behind another, by their entry tokens: Main, none, or a type.
+const PAIRS: &str = "
+-: 06000001 and 00000000: First | 06000001 / Second | 00000000
+-: 00000000 and 06000001: First | 00000000 / Second | 06000001
+3 23 FF 0 0: 00000000 and 00000000: First | 00000000 / Second | 00000000
+3 23 FF 0 0: 06000001 and 06000001: First | 06000001 / Second | 06000001
+2 23 FF 0 0: 02000002 and 00000000: First | 02000002 / Second | 00000000
+2 23 FF 0 0: 02000002 and 06000001: First | 02000002 / Second | 06000001
+3 23 FF 0 0: 06000001 and 02000002: First | 06000001 / Second | 02000002
+3 23 FF 0 0: 00000000 and 02000002: First | 00000000 / Second | 02000002
+2 23 FF 0 0: 06000002 and 06000002: First | 06000002 / Second | 06000002
+";
+
+#[test]
+fn entries_of_two_files(rt: HostRuntime) -> Result<(), Fail> {
+    files_are_told(&rt, PAIRS)
 }

@@ -1,6 +1,6 @@
 //! Rules 40 to 43: headers, sections, instructions and targets (ECMA-335 II.25.4, III.1.2.1).
 
-use crate::rows::methods_are_told;
+use crate::told::methods_are_told;
 use std::test::Fail;
 
 /// Headers, sizes and the signature of locals (II.25.4.1 to II.25.4.4).

@@ -1,6 +1,6 @@
 //! Rule 44: clauses (ECMA-335 II.19, II.25.4.6).
 
-use crate::rows::methods_are_told;
+use crate::told::methods_are_told;
 use std::test::Fail;
 
 /// Kinds, classes, and how tries and handlers lie.

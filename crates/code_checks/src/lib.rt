@@ -1,4 +1,4 @@
-//! What rules 31 and 40 to 54 tell of small types and methods, in lines of text: each ground of each rule, and what passes.
+//! What rules 31, 40 to 45, 47 and 50 to 54 tell of small types and methods, in lines of text: each ground of each rule, and what passes.
 #![tactic(auto)]
 
 #[cfg(test)]
@@ -8,18 +8,10 @@ mod clauses;
 #[cfg(test)]
 mod merges;
 #[cfg(test)]
-mod operands;
-#[cfg(test)]
-mod rows;
-#[cfg(test)]
 mod slots;
 #[cfg(test)]
 mod stacks;
 #[cfg(test)]
-mod stage;
-#[cfg(test)]
-mod text;
+mod told;
 #[cfg(test)]
 mod transfers;
-#[cfg(test)]
-mod values;

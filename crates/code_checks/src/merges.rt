@@ -1,6 +1,6 @@
 //! Rule 53 where ways meet (ECMA-335 III.1.8.1.3).
 
-use crate::rows::methods_are_told;
+use crate::told::methods_are_told;
 use std::test::Fail;
 
 /// What two sides merge to, and what comes back.

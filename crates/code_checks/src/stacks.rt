@@ -1,6 +1,6 @@
 //! Rules 47 to 54 without the types of values: numbers of places, depths, and where the stack is to be empty (ECMA-335 III.1.7).
 
-use crate::rows::methods_are_told;
+use crate::told::methods_are_told;
 use std::test::Fail;
 
 /// Numbers of arguments and locals (III.3.38, III.3.43).

@@ -1,6 +1,6 @@
 //! Rule 45: transfers across tries and handlers (ECMA-335 III.1.7.4).
 
-use crate::rows::methods_are_told;
+use crate::told::methods_are_told;
 use std::test::Fail;
 
 /// Branches, switches and falling through.

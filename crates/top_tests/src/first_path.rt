@@ -1,5 +1,7 @@
 //! Rows of the first path, over a store and a sink in memory.
 
+use crate::front::is_line;
+use case_text::{Line, lines_of};
 use mf_types::files::NamedFile;
 use mfdeploy_top::mfdeploy;
 use outside_in_memory::{MemorySink, MemoryStore};
@@ -7,204 +9,91 @@ use plain_types::list::{Items, Text};
 use std::alloc::{AllocError, Global};
 use std::test::Fail;
 
-// Where the parts of the smallest file of the first form begin.
-const OPTIONAL_HEADER: usize = 88;
+/// What the smallest file of the first form has that isn't zero, but for the method's body: where it stands, its bytes, and what it is.
+/// All names are empty.
+const PARTS: &str = "
+0 | 4D 5A | the marker MZ
+60 | 40 | where the PE header stands
+64 | 50 45 00 00 | the marker PE
+70 | 01 | one section
+84 | D8 | the size of the optional header
+88 | 0B 01 | PE32
+296 | 00 20 | the RVA of the CLI header
+300 | 48 | its size
+316 | 00 20 | the section's RVA
+320 | 00 10 | its size
+324 | 58 01 | where it stands
+352 | 48 20 | the RVA of the metadata
+356 | E4 | its size
+360 | 01 | only CIL
+364 | 01 00 00 06 | the entry
+416 | 42 53 4A 42 | the marker of the metadata
+434 | 03 | three streams
+436 | 44 | offset
+440 | 94 | size
+444 | 23 7E | the stream of tables
+448 | D8 | offset
+452 | 04 | size
+456 | 23 53 74 72 69 6E 67 73 | the stream of names
+468 | DC | offset
+472 | 08 | size
+476 | 23 42 6C 6F 62 | the stream of signatures
+492 | 47 | the tables: Module, TypeRef, TypeDef and MethodDef
+496 | 09 | Assembly and AssemblyRef
+508 | 01 00 00 00 01 00 00 00 02 00 00 00 01 00 00 00 01 00 00 00 01 | their rows
+542 | 06 | the scope of the reference to a type
+558 | 01 00 01 | the lists of the first type
+570 | 05 00 01 00 01 | superclass and lists of the second
+576 | 2C 21 | the RVA of the method's body
+582 | 16 | its flags
+586 | 01 00 01 | its signature and parameters
+636 | 00 03 00 00 08 | the signature
+";
 
-const SECTION_HEADER: usize = 304;
-
-const CLI_HEADER: usize = 344;
-
-const ROOT: usize = 416;
-
-const TABLES: usize = 484;
-
-/// The row of the method.
-const METHOD: usize = TABLES + 92;
-
-const STRINGS: usize = 632;
-
-const BLOBS: usize = 636;
-
+/// Where the body of the method stands, behind which there is room for 63 bytes of code.
 const BODY: usize = 644;
 
-/// The RVA of the section, which begins with the CLI header.
-const ADDRESS: u32 = 0x2000;
-
 /// Puts bytes at a place of the file.
-fn put(file: &mut Vec<u8>, at: usize, bytes: &[u8]) {
-    for (k, byte) in bytes.iter().enumerate() {
-        if let Some(slot) = file.get_mut(at.saturating_add(k)) {
-            *slot = *byte;
-        }
+fn put(file: &mut [u8], at: usize, bytes: &[u8]) {
+    if at < file.len() && file.len() - at >= bytes.len() {
+        file[at..at + bytes.len()].copy_from_slice(bytes);
     }
-}
-
-/// Puts a number of four bytes at a place of the file.
-fn put_number(file: &mut Vec<u8>, at: usize, number: u32) {
-    put(file, at, &number.to_le_bytes());
-}
-
-/// The headers of a file with one section.
-fn put_headers(file: &mut Vec<u8>) {
-    put(file, 0, b"MZ");
-    put_number(file, 60, 64);
-    put(file, 64, b"PE\0\0");
-    put(file, 70, &[1, 0]);
-    put(file, 84, &[216, 0]);
-    put(file, OPTIONAL_HEADER, &[0x0B, 0x01]);
-    put_number(file, OPTIONAL_HEADER + 208, ADDRESS);
-    put_number(file, OPTIONAL_HEADER + 212, 72);
-    put_number(file, SECTION_HEADER + 12, ADDRESS);
-    put_number(file, SECTION_HEADER + 16, 0x1000);
-    put_number(file, SECTION_HEADER + 20, CLI_HEADER as u32);
-}
-
-/// The CLI header, with method 1 as the entry.
-fn put_cli_header(file: &mut Vec<u8>) {
-    put_number(file, CLI_HEADER + 8, ADDRESS + (ROOT - CLI_HEADER) as u32);
-    put_number(file, CLI_HEADER + 12, (BODY - ROOT) as u32);
-    put_number(file, CLI_HEADER + 16, 1);
-    put_number(file, CLI_HEADER + 20, 0x0600_0001);
-}
-
-/// The metadata root, and the headers of `#~`, `#Strings` and `#Blob`.
-fn put_root(file: &mut Vec<u8>) {
-    put(file, ROOT, b"BSJB");
-    put(file, ROOT + 18, &[3, 0]);
-    put_number(file, ROOT + 20, (TABLES - ROOT) as u32);
-    put_number(file, ROOT + 24, (STRINGS - TABLES) as u32);
-    put(file, ROOT + 28, b"#~");
-    put_number(file, ROOT + 32, (STRINGS - ROOT) as u32);
-    put_number(file, ROOT + 36, 4);
-    put(file, ROOT + 40, b"#Strings");
-    put_number(file, ROOT + 52, (BLOBS - ROOT) as u32);
-    put_number(file, ROOT + 56, 8);
-    put(file, ROOT + 60, b"#Blob");
-}
-
-/// The rows: Module, TypeRef, two of TypeDef, MethodDef, Assembly and AssemblyRef, all names empty.
-fn put_rows(file: &mut Vec<u8>) {
-    put_number(file, TABLES + 8, 0x47);
-    put_number(file, TABLES + 12, 0x9);
-    for (k, count) in [1, 1, 2, 1, 1, 1].iter().enumerate() {
-        put_number(file, TABLES + 24 + 4 * k, *count);
-    }
-    put(file, TABLES + 58, &[6]);
-    put(file, TABLES + 74, &[1, 0, 1]);
-    put(file, TABLES + 86, &[5, 0, 1, 0, 1]);
-    put_number(file, METHOD, ADDRESS + (BODY - CLI_HEADER) as u32);
-    put(file, METHOD + 6, &[0x16]);
-    put(file, METHOD + 10, &[1, 0, 1]);
-    put(file, BLOBS, &[0, 3, 0, 0, 8]);
 }
 
 /// The smallest file of the first form with this code, which has at most 63 bytes.
-fn file_of(alloc: Global, code: &[u8]) -> Result<Vec<u8>, AllocError> {
+fn file_of(alloc: Global, code: &[u8]) -> Result<Vec<u8>, Fail> {
     let mut file = vec![in alloc; 0; BODY + 1 + 63]?;
-    put_headers(&mut file);
-    put_cli_header(&mut file);
-    put_root(&mut file);
-    put_rows(&mut file);
-    put(&mut file, BODY, &[(code.len() % 64) as u8 * 4 + 2]);
-    put(&mut file, BODY + 1, code);
+    let lines = lines_of(alloc, PARTS, '|')?;
+    for line in lines.as_slice() {
+        let bytes = line.bytes(alloc, 1)?;
+        put(
+            file.as_mut_slice(),
+            line.number(0)? as usize,
+            bytes.as_slice(),
+        );
+    }
+    let header = [(code.len() % 64) as u8 * 4 + 2];
+    put(file.as_mut_slice(), BODY, &header);
+    put(file.as_mut_slice(), BODY + 1, code);
     Ok(file)
 }
 
-/// 10 by 3, less 1.
-const CONSTANTS: &[u8] = &[0x1F, 0x0A, 0x19, 0x5A, 0x17, 0x59, 0x2A];
-
-/// The greatest number and 1.
-const OVERFLOW: &[u8] = &[0x20, 0xFF, 0xFF, 0xFF, 0x7F, 0x17, 0x58, 0x2A];
-
-const USAGE: &str = "usage: mfdeploy check FILES | run1 FILE STEPS\n";
-
-/// How a row's bytes become those of its file.
-#[derive(Clone, Copy)]
-enum Form {
-    /// They are the file.
-    Bare,
-    /// They are the code of the smallest file of the first form.
-    Code,
-    /// The same, cut behind so many bytes.
-    Cut(usize),
-}
-
-/// What the job `run1 NAME STEPS` is asked of, and what comes of it.
-#[derive(Clone, Copy)]
-struct Row {
-    name: &'static str,
-    bytes: &'static [u8],
-    form: Form,
-    steps: &'static str,
-    store_fails: u32,
-    sink_fails: u32,
-    status: u8,
-    text: &'static str,
-}
-
-/// A run of a code, where nothing fails.
-fn run(bytes: &'static [u8], steps: &'static str, status: u8, text: &'static str) -> Row {
-    Row {
-        name: "a.dll",
-        bytes,
-        form: Form::Code,
-        steps,
-        store_fails: 0,
-        sink_fails: 0,
-        status,
-        text,
-    }
-}
-
-/// The rows of the table.
-fn rows() -> [Row; 11] {
-    [
-        run(CONSTANTS, "6", 0, "end: returned 29\n"),
-        run(CONSTANTS, "5", 0, "end: steps spent\n"),
-        run(OVERFLOW, "9", 0, "end: returned -2147483648\n"),
-        run(
-            &[0x2A],
-            "9",
-            2,
-            "refused: rule 99 a.dll table 255 row 0 offset 0\n",
-        ),
-        Row {
-            form: Form::Bare,
-            ..run(
-                &[],
-                "9",
-                2,
-                "refused: rule 1 a.dll table 255 row 0 offset 0\n",
-            )
-        },
-        Row {
-            form: Form::Cut(METHOD + 7),
-            ..run(
-                CONSTANTS,
-                "1",
-                2,
-                "refused: rule 7 a.dll table 255 row 0 offset 352\n",
-            )
-        },
-        run(CONSTANTS, "01", 1, USAGE),
-        Row {
-            store_fails: 1,
-            ..run(CONSTANTS, "6", 6, "read fault: a.dll\n")
-        },
-        Row {
-            name: "b.dll",
-            ..run(CONSTANTS, "6", 6, "read fault: a.dll\n")
-        },
-        Row {
-            sink_fails: 1,
-            ..run(CONSTANTS, "6", 7, "")
-        },
-        Row {
-            sink_fails: 2,
-            ..run(CONSTANTS, "6", 0, "end: returned 29\n")
-        },
-    ]
-}
+/// What the job `run1 a.dll STEPS` is asked of, and what comes of it: the code of the smallest file of the first form; behind how many
+/// bytes that file is cut, `-` for nowhere; the name of the file; the steps; the calls of the store and of the sink that fail, 0 for
+/// none; the status; and the line that is written. The first code is 10 by 3, less 1, and the second one the greatest number and 1.
+const RUNS: &str = "
+1F 0A 19 5A 17 59 2A ; - ; a.dll ; 6 ; 0 ; 0 ; 0 ; end: returned 29
+1F 0A 19 5A 17 59 2A ; - ; a.dll ; 5 ; 0 ; 0 ; 0 ; end: steps spent
+20 FF FF FF 7F 17 58 2A ; - ; a.dll ; 9 ; 0 ; 0 ; 0 ; end: returned -2147483648
+2A ; - ; a.dll ; 9 ; 0 ; 0 ; 2 ; refused: rule 99 a.dll table 255 row 0 offset 0
+; 0 ; a.dll ; 9 ; 0 ; 0 ; 2 ; refused: rule 1 a.dll table 255 row 0 offset 0
+1F 0A 19 5A 17 59 2A ; 583 ; a.dll ; 1 ; 0 ; 0 ; 2 ; refused: rule 7 a.dll table 255 row 0 offset 352
+1F 0A 19 5A 17 59 2A ; - ; a.dll ; 01 ; 0 ; 0 ; 1 ; usage: mfdeploy check FILES | run1 FILE STEPS
+1F 0A 19 5A 17 59 2A ; - ; a.dll ; 6 ; 1 ; 0 ; 6 ; read fault: a.dll
+1F 0A 19 5A 17 59 2A ; - ; b.dll ; 6 ; 0 ; 0 ; 6 ; read fault: a.dll
+1F 0A 19 5A 17 59 2A ; - ; a.dll ; 6 ; 0 ; 1 ; 7 ;
+1F 0A 19 5A 17 59 2A ; - ; a.dll ; 6 ; 0 ; 2 ; 0 ; end: returned 29
+";
 
 /// The words `run1 FILE STEPS`.
 fn words(alloc: Global, file: &str, steps: &str) -> Result<Vec<String>, AllocError> {
@@ -215,42 +104,42 @@ fn words(alloc: Global, file: &str, steps: &str) -> Result<Vec<String>, AllocErr
     Ok(words)
 }
 
-/// The bytes of the row's file.
-fn bytes_of(alloc: Global, row: &Row) -> Result<Vec<u8>, AllocError> {
-    match row.form {
-        Form::Bare => Vec::from_slice(alloc, row.bytes),
-        Form::Code => file_of(alloc, row.bytes),
-        Form::Cut(len) => {
-            let mut file = file_of(alloc, row.bytes)?;
-            file.truncate(len);
-            Ok(file)
-        }
+/// The bytes of the line's file.
+fn bytes_of(alloc: Global, line: &Line<'_>) -> Result<Vec<u8>, Fail> {
+    let code = line.bytes(alloc, 0)?;
+    let mut file = file_of(alloc, code.as_slice())?;
+    if line.option(1).is_some() {
+        file.truncate(line.number(1)? as usize);
     }
+    Ok(file)
 }
 
-/// A store with one file of this name.
-fn store_of(alloc: Global, row: &Row) -> Result<MemoryStore, Fail> {
-    let name = Text::copied(alloc, row.name).map_err(|_| "memory")?;
+/// A store with one file.
+fn store_of(alloc: Global, line: &Line<'_>) -> Result<MemoryStore, Fail> {
+    let name = Text::copied(alloc, line.text(2)).map_err(|_| "memory")?;
     let file = NamedFile {
         name,
-        bytes: Items::from_vec(bytes_of(alloc, row)?),
+        bytes: Items::from_vec(bytes_of(alloc, line)?),
     };
     let mut files = Vec::new(alloc);
     files.push(file)?;
-    let fails = vec![in alloc; row.store_fails; 1]?;
+    let due = line.number(4)?;
+    let fails = vec![in alloc; due; 1]?;
     Ok(MemoryStore::new(files, fails))
 }
 
 #[test]
 fn each_row_has_its_status_and_text(rt: HostRuntime) -> Result<(), Fail> {
-    for row in &rows() {
-        let words = words(rt.alloc(), "a.dll", row.steps)?;
-        let mut store = store_of(rt.alloc(), row)?;
-        let fails = vec![in rt.alloc(); row.sink_fails; 1]?;
+    let lines = lines_of(rt.alloc(), RUNS, ';')?;
+    for line in lines.as_slice() {
+        let words = words(rt.alloc(), "a.dll", line.text(3))?;
+        let mut store = store_of(rt.alloc(), line)?;
+        let due = line.number(5)?;
+        let fails = vec![in rt.alloc(); due; 1]?;
         let mut sink = MemorySink::new(rt.alloc(), fails, 10_000).map_err(|_| "memory")?;
         let status = mfdeploy(rt.alloc(), &words, &mut store, &mut sink);
-        assert_eq!(rt; status, row.status, "{}", row.text);
-        assert_eq!(rt; sink.written(), row.text.as_bytes());
+        assert_eq!(rt; status, line.byte(6)?, "{}", line.text(7));
+        assert!(rt; is_line(sink.written(), line.text(7)), "{}", line.text(7));
     }
     Ok(())
 }

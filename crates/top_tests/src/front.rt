@@ -1,13 +1,25 @@
 //! Words and the jobs that they spell, and outcomes with their statuses and texts.
 
+use case_text::lines_of;
 use mf_front::{End, Job, JobRefusal, Outcome, end_line, job, status, text};
-use plain_types::fault::{Fault, Place};
+use plain_types::fault::{Fault, NoMemory, Place};
 use plain_types::list::Text;
+use std::alloc::{AllocError, Global};
 use std::test::Fail;
 
-/// Each outcome with its status and its line.
-#[test]
-fn outcomes_have_their_texts(rt: HostRuntime) -> Result<(), Fail> {
+/// Outcomes, each with its status and its line.
+const OUTCOMES: &str = "
+usage ; 1 ; usage: mfdeploy check FILES | run1 FILE STEPS
+refused ; 2 ; refused: rule 2 a.dll table 255 row 0 offset 60
+read fault ; 6 ; read fault: b.dll
+no memory ; 8 ; no memory
+accepted ; 0 ; accepted: 12 files, 3 types, 40 methods
+returned ; 0 ; end: returned -2147483648
+spent ; 0 ; end: steps spent
+";
+
+/// A file is refused by rule 2 at offset 60.
+fn refused(alloc: Global) -> Result<Outcome, NoMemory> {
     let place = Place {
         file: 0,
         table: 255,
@@ -15,113 +27,113 @@ fn outcomes_have_their_texts(rt: HostRuntime) -> Result<(), Fail> {
         offset: 60,
     };
     let fault = Fault { rule: 2, place };
-    let file = Text::copied(rt.alloc(), "a.dll").map_err(|_| "memory")?;
-    let other = Text::copied(rt.alloc(), "b.dll").map_err(|_| "memory")?;
-    let least = end_line(rt.alloc(), End::Returned(-2147483648)).map_err(|_| "memory")?;
-    let spent = end_line(rt.alloc(), End::StepsSpent).map_err(|_| "memory")?;
-    let rows = [
-        (
-            Outcome::Usage,
-            1,
-            "usage: mfdeploy check FILES | run1 FILE STEPS\n",
-        ),
-        (
-            Outcome::Refused { fault, file },
-            2,
-            "refused: rule 2 a.dll table 255 row 0 offset 60\n",
-        ),
-        (Outcome::ReadFault { file: other }, 6, "read fault: b.dll\n"),
-        (Outcome::NoMemory, 8, "no memory\n"),
-        (
-            Outcome::Accepted {
-                files: 12,
-                types: 3,
-                methods: 40,
-            },
-            0,
-            "accepted: 12 files, 3 types, 40 methods\n",
-        ),
-        (
-            Outcome::Ran {
-                status: 0,
-                text: least,
-            },
-            0,
-            "end: returned -2147483648\n",
-        ),
-        (
-            Outcome::Ran {
-                status: 0,
-                text: spent,
-            },
-            0,
-            "end: steps spent\n",
-        ),
-    ];
-    for (outcome, ends_with, line) in rows {
-        assert_eq!(rt; status(&outcome), ends_with);
-        let text = text(rt.alloc(), &outcome).map_err(|_| "memory")?;
-        assert_eq!(rt; text.as_slice(), line.as_bytes());
+    let file = Text::copied(alloc, "a.dll")?;
+    Ok(Outcome::Refused { fault, file })
+}
+
+fn read_fault(alloc: Global) -> Result<Outcome, NoMemory> {
+    let file = Text::copied(alloc, "b.dll")?;
+    Ok(Outcome::ReadFault { file })
+}
+
+fn ran(alloc: Global, end: End) -> Result<Outcome, NoMemory> {
+    let text = end_line(alloc, end)?;
+    Ok(Outcome::Ran { status: 0, text })
+}
+
+/// The outcome of a name.
+fn outcome_of(alloc: Global, name: &str) -> Result<Outcome, NoMemory> {
+    match name {
+        "usage" => Ok(Outcome::Usage),
+        "refused" => refused(alloc),
+        "read fault" => read_fault(alloc),
+        "no memory" => Ok(Outcome::NoMemory),
+        "accepted" => Ok(Outcome::Accepted {
+            files: 12,
+            types: 3,
+            methods: 40,
+        }),
+        "returned" => ran(alloc, End::Returned(-2147483648)),
+        _ => ran(alloc, End::StepsSpent),
+    }
+}
+
+/// Whether bytes are a line with its end; no bytes where the line is empty.
+pub fn is_line(bytes: &[u8], line: &str) -> bool {
+    match bytes {
+        [front @ .., b'\n'] => front == line.as_bytes(),
+        _ => bytes.is_empty() && line == "",
+    }
+}
+
+/// Each outcome with its status and its line.
+#[test]
+fn outcomes_have_their_texts(rt: HostRuntime) -> Result<(), Fail> {
+    let lines = lines_of(rt.alloc(), OUTCOMES, ';')?;
+    for line in lines.as_slice() {
+        let outcome = outcome_of(rt.alloc(), line.text(0))?;
+        assert_eq!(rt; status(&outcome), line.byte(1)?);
+        let text = text(rt.alloc(), &outcome)?;
+        assert!(rt; is_line(text.as_slice(), line.text(2)), "{}", line.text(2));
     }
     Ok(())
 }
 
-/// What words ask for.
-#[derive(Clone, Copy)]
-enum Wanted {
-    Nothing,
-    Run1(&'static str, u64),
-    Check(&'static [&'static str]),
-}
+/// Words with blanks between them, and whether they spell a job.
+const JOBS: &str = "
+run1 a.dll 6 | yes
+run1 - 18446744073709551615 | yes
+run1 -a 6 | no
+run1 a.dll 01 | no
+run1 a.dll 18446744073709551616 | no
+run1 a.dll | no
+run1 a.dll 6 7 | no
+check a.dll | yes
+check b - b | yes
+check | no
+check a.dll -x | no
+| no
+";
 
-/// Whether a job is the wanted one.
-fn is_wanted(found: &Job, wanted: Wanted) -> bool {
-    match (found, wanted) {
-        (Job::Run1 { file, steps }, Wanted::Run1(name, count)) => {
-            file.as_str() == name && *steps == count
+/// Whether a job has the words.
+fn has_words(found: &Job, words: &[String]) -> bool {
+    match (found, words) {
+        (Job::Run1 { file, steps }, [_, name, count]) => {
+            file.as_str() == name.as_str() && count.as_str().parse::<u64>().ok() == Some(*steps)
         }
-        (Job::Check { files }, Wanted::Check(names)) => {
-            let files = files.as_slice();
-            files.len() == names.len()
-                && files
-                    .iter()
-                    .zip(names)
-                    .all(|(file, name)| file.as_str() == *name)
-        }
+        (Job::Check { files }, [_, names @ ..]) => are_names(files.as_slice(), names),
         _ => false,
     }
+}
+
+fn are_names(files: &[Text], names: &[String]) -> bool {
+    files.len() == names.len()
+        && files
+            .iter()
+            .zip(names)
+            .all(|(file, name)| file.as_str() == name.as_str())
+}
+
+/// The words of a text.
+fn words_of(alloc: Global, text: &str) -> Result<Vec<String>, AllocError> {
+    let mut words = Vec::new(alloc);
+    for word in text.split_whitespace() {
+        words.push(String::from_str(alloc, word)?)?;
+    }
+    Ok(words)
 }
 
 /// Words, and the job that they spell.
 #[test]
 fn words_are_jobs_or_none(rt: HostRuntime) -> Result<(), Fail> {
-    let rows: [(&[&str], Wanted); 12] = [
-        (&["run1", "a.dll", "6"], Wanted::Run1("a.dll", 6)),
-        (
-            &["run1", "-", "18446744073709551615"],
-            Wanted::Run1("-", u64::MAX),
-        ),
-        (&["run1", "-a", "6"], Wanted::Nothing),
-        (&["run1", "a.dll", "01"], Wanted::Nothing),
-        (&["run1", "a.dll", "18446744073709551616"], Wanted::Nothing),
-        (&["run1", "a.dll"], Wanted::Nothing),
-        (&["run1", "a.dll", "6", "7"], Wanted::Nothing),
-        (&["check", "a.dll"], Wanted::Check(&["a.dll"])),
-        (&["check", "b", "-", "b"], Wanted::Check(&["b", "-", "b"])),
-        (&["check"], Wanted::Nothing),
-        (&["check", "a.dll", "-x"], Wanted::Nothing),
-        (&[], Wanted::Nothing),
-    ];
-    for (words, wanted) in rows {
-        let mut owned = Vec::new(rt.alloc());
-        for word in words {
-            owned.push(String::from_str(rt.alloc(), word)?)?;
-        }
-        match job(rt.alloc(), &owned) {
-            Ok(found) => assert!(rt; is_wanted(&found, wanted)),
+    let lines = lines_of(rt.alloc(), JOBS, '|')?;
+    for line in lines.as_slice() {
+        let words = words_of(rt.alloc(), line.text(0))?;
+        match job(rt.alloc(), &words) {
+            Ok(found) => assert!(rt; line.is_yes(1) && has_words(&found, words.as_slice())),
             Err(refusal) => {
                 assert_eq!(rt; refusal, JobRefusal::NoJob);
-                assert!(rt; matches!(wanted, Wanted::Nothing));
+                assert!(rt; !line.is_yes(1), "{}", line.text(0));
             }
         }
     }

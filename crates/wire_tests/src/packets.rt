@@ -1,32 +1,22 @@
 //! Packets with known bytes, streams in pieces, and packets that are none.
 
 use arrayvec::ArrayVec;
+use case_text::{Line, bytes_of, lines_of};
 use std::process::Abort;
+use std::test::Fail;
+use wire_packets::packet::MAX_PAYLOAD;
 use wire_packets::{Decoded, Packet, decode, encode};
 
-/// Open, the first request of a session.
-const OPEN: &[u8] =
-    b"MSpktV1\x00\x78\x02\x00\x00\x00\x00\x00\x00\x01\x00\x00\x00\x01\x00\x00\x00\x00\x00\x00\x00\x00\x00\x00\x00";
-
-/// Erase of sector 5, the third request.
-const ERASE: &[u8] =
-    b"MSpktV1\x00\x86\x02\x00\x00\x05\x00\x00\x00\x04\x00\x00\x00\x03\x00\x00\x00\x00\x00\x00\x00\x04\x00\x00\x00\x05\x00\x00\x00";
-
-/// Close, the second request.
-const CLOSE: &[u8] =
-    b"MSpktV1\x00\x7f\x02\x00\x00\x00\x00\x00\x00\x07\x00\x00\x00\x02\x00\x00\x00\x00\x00\x00\x00\x00\x00\x00\x00";
-
-/// The reply to Open: 32 sectors of 8,192 bytes.
-const OPENED: &[u8] =
-    b"MSpktV1\x00\xc2\x02\x00\x00\x40\x00\x00\x00\x01\x00\x00\x00\x00\x00\x01\x00\x01\x00\x00\x00\x09\x00\x00\x00\x00\x20\x00\x00\x00\x00\x20\x00\x00";
-
-/// The reply to that Close.
-const CLOSED: &[u8] =
-    b"MSpktV1\x00\x81\x02\x00\x00\x00\x00\x00\x00\x07\x00\x00\x00\x00\x00\x02\x00\x01\x00\x00\x00\x01\x00\x00\x00\x00";
-
-/// A sound header but for its size of 1,025 bytes.
-const TOO_LONG: &[u8] =
-    b"MSpktV1\x00\x7d\x02\x00\x00\x00\x00\x00\x00\x01\x00\x00\x00\x01\x00\x00\x00\x00\x00\x00\x00\x01\x04\x00\x00";
+/// Packets and their bytes: what the packet is, its command, the number of the request, and its payload. In their order: Open, the first
+/// request of a session; Erase of sector 5, the third; Close, the second; the replies to that Open, 32 sectors of 8,192 bytes, and to that
+/// Close.
+const KNOWN: &str = "
+request | 1 | 1 | | 4D 53 70 6B 74 56 31 00 78 02 00 00 00 00 00 00 01 00 00 00 01 00 00 00 00 00 00 00 00 00 00 00
+request | 4 | 3 | 05 00 00 00 | 4D 53 70 6B 74 56 31 00 86 02 00 00 05 00 00 00 04 00 00 00 03 00 00 00 00 00 00 00 04 00 00 00 05 00 00 00
+request | 7 | 2 | | 4D 53 70 6B 74 56 31 00 7F 02 00 00 00 00 00 00 07 00 00 00 02 00 00 00 00 00 00 00 00 00 00 00
+reply | 1 | 1 | 00 20 00 00 00 00 20 00 00 | 4D 53 70 6B 74 56 31 00 C2 02 00 00 40 00 00 00 01 00 00 00 00 00 01 00 01 00 00 00 09 00 00 00 00 20 00 00 00 00 20 00 00
+reply | 7 | 2 | 00 | 4D 53 70 6B 74 56 31 00 81 02 00 00 00 00 00 00 07 00 00 00 00 00 02 00 01 00 00 00 01 00 00 00 00
+";
 
 /// The packet has these bytes and is read from them, from no fewer, and not with another last byte.
 fn spelt(rt: &impl Abort, p: Packet, bytes: &[u8]) {
@@ -41,30 +31,52 @@ fn spelt(rt: &impl Abort, p: Packet, bytes: &[u8]) {
     assert!(rt; decode(&out) == Decoded::Whole(p, length));
 }
 
-#[test]
-fn known_packets(rt: HostRuntime) {
-    spelt(&rt, Packet::request(1, 1, &[]), OPEN);
-    spelt(&rt, Packet::request(4, 3, &[5, 0, 0, 0]), ERASE);
-    spelt(&rt, Packet::request(7, 2, &[]), CLOSE);
-    let shape = [0, 32, 0, 0, 0, 0, 32, 0, 0];
-    spelt(&rt, Packet::new(1, 0, 1, 1, &shape), OPENED);
-    spelt(&rt, Packet::new(7, 0, 2, 1, &[0]), CLOSED);
+/// The packet of a line, a request or a reply.
+fn packet_of(rt: &impl Abort, line: &Line<'_>, payload: &[u8]) -> Result<Packet, Fail> {
+    assert!(rt; payload.len() <= MAX_PAYLOAD);
+    let command = line.number(1)?;
+    let number = u16::from(line.byte(2)?);
+    Ok(match line.text(0) {
+        "request" => Packet::request(command, number, payload),
+        _ => Packet::new(command, 0, number, 1, payload),
+    })
 }
 
 #[test]
-fn damaged_packets(rt: HostRuntime) {
-    assert!(rt; decode(TOO_LONG) == Decoded::Damaged);
-    assert!(rt; decode(b"MSpktV2") == Decoded::Damaged);
-    assert!(rt; decode(b"MSpktV1") == Decoded::Short);
-    assert!(rt; decode(&[]) == Decoded::Short);
-    assert!(rt; ERASE.len() == 36);
-    let mut wrong = [0u8; 36];
-    wrong.copy_from_slice(ERASE);
-    wrong[35] = 6;
-    assert!(rt; decode(&wrong) == Decoded::Damaged);
-    wrong[35] = 0;
-    wrong[20] = 4;
-    assert!(rt; decode(&wrong) == Decoded::Damaged);
+fn known_packets(rt: HostRuntime) -> Result<(), Fail> {
+    let lines = lines_of(rt.alloc(), KNOWN, '|')?;
+    for line in lines.as_slice() {
+        let payload = line.bytes(rt.alloc(), 3)?;
+        let bytes = line.bytes(rt.alloc(), 4)?;
+        let packet = packet_of(&rt, line, payload.as_slice())?;
+        spelt(&rt, packet, bytes.as_slice());
+    }
+    Ok(())
+}
+
+/// Bytes, and what they are read as: a sound header but for its size of 1,025 bytes, fronts of packets, and an Erase with another last
+/// byte, and with another number.
+const DAMAGED: &str = "
+4D 53 70 6B 74 56 31 00 7D 02 00 00 00 00 00 00 01 00 00 00 01 00 00 00 00 00 00 00 01 04 00 00 | damaged
+4D 53 70 6B 74 56 32 | damaged
+4D 53 70 6B 74 56 31 | short
+| short
+4D 53 70 6B 74 56 31 00 86 02 00 00 05 00 00 00 04 00 00 00 03 00 00 00 00 00 00 00 04 00 00 00 05 00 00 06 | damaged
+4D 53 70 6B 74 56 31 00 86 02 00 00 05 00 00 00 04 00 00 00 04 00 00 00 00 00 00 00 04 00 00 00 05 00 00 00 | damaged
+";
+
+#[test]
+fn damaged_packets(rt: HostRuntime) -> Result<(), Fail> {
+    let lines = lines_of(rt.alloc(), DAMAGED, '|')?;
+    for line in lines.as_slice() {
+        let bytes = line.bytes(rt.alloc(), 0)?;
+        let wanted = match line.text(1) {
+            "short" => Decoded::Short,
+            _ => Decoded::Damaged,
+        };
+        assert!(rt; decode(bytes.as_slice()) == wanted, "{}", line.text(0));
+    }
+    Ok(())
 }
 
 /// How many packets a stream has that comes in two pieces.
@@ -89,21 +101,22 @@ fn count_in_pieces(stream: &[u8], first: usize) -> u32 {
     count
 }
 
+/// Two bytes and a third that begins a packet, Erase twice, a byte, the reply to Open, and the front of a packet.
+const STREAM: &str = "
+4D 53 4D
+4D 53 70 6B 74 56 31 00 86 02 00 00 05 00 00 00 04 00 00 00 03 00 00 00 00 00 00 00 04 00 00 00 05 00 00 00
+4D 53 70 6B 74 56 31 00 86 02 00 00 05 00 00 00 04 00 00 00 03 00 00 00 00 00 00 00 04 00 00 00 05 00 00 00
+78
+4D 53 70 6B 74 56 31 00 C2 02 00 00 40 00 00 00 01 00 00 00 00 00 01 00 01 00 00 00 09 00 00 00 00 20 00 00 00 00 20 00 00
+4D 53 70 6B 74
+";
+
 #[test]
-fn every_split_of_a_stream(rt: HostRuntime) {
-    let mut stream: ArrayVec<u8, 256> = ArrayVec::new();
-    for piece in [
-        b"MSM".as_slice(),
-        ERASE,
-        ERASE,
-        b"x".as_slice(),
-        OPENED,
-        b"MSpkt".as_slice(),
-    ] {
-        let _ = stream.try_extend_from_slice(piece);
-    }
+fn every_split_of_a_stream(rt: HostRuntime) -> Result<(), Fail> {
+    let stream = bytes_of(rt.alloc(), STREAM)?;
     assert!(rt; stream.len() == 3 + 36 + 36 + 1 + 41 + 5);
     for first in 0..=stream.len() {
-        assert!(rt; count_in_pieces(&stream, first) == 3);
+        assert!(rt; count_in_pieces(stream.as_slice(), first) == 3);
     }
+    Ok(())
 }

@@ -1,237 +1,89 @@
 //! Which replies match, by the bytes that both ends exchange.
 
+use case_text::{Line, lines_of};
 use std::process::Abort;
+use std::test::Fail;
 use wire_packets::Packet;
 use wire_packets::packet::MAX_PAYLOAD;
 use wire_session::matches;
 
-/// A command, a request's payload, a reply's payload, and whether the reply matches.
-type Row = (u32, &'static [u8], &'static [u8], bool);
+/// Commands, a request's payload, a reply's payload, and whether the reply matches: Open, Program, Erase, Close, Banks and Hello.
+const PLAIN: &str = "
+1 | | 00 20 00 00 00 00 20 00 00 | yes
+1 | | 00 1F 00 00 00 00 20 00 00 | no
+1 | | 00 20 00 00 00 00 20 00 | no
+1 | | 03 | yes
+3 | 00 00 00 00 01 | 00 | yes
+3 | 00 00 00 00 01 | 02 | yes
+3 | 00 00 00 00 01 | 02 00 | no
+3 | 00 00 00 00 01 | 04 | no
+4 | 05 00 00 00 | 00 | yes
+4 | 05 00 00 00 | 01 | no
+4 | 05 00 00 00 | | no
+7 | | 00 | yes
+7 | | 00 00 | no
+8 | | 00 | no
+8 | | 00 00 00 00 00 00 00 00 00 00 00 | yes
+8 | | 00 00 00 00 00 00 01 00 00 00 00 | no
+8 | | 00 02 00 00 00 00 00 00 00 00 03 | yes
+8 | | 00 03 01 00 00 00 FF FF FF FF 03 | yes
+8 | | 00 03 02 00 00 00 01 00 00 00 03 | no
+8 | | 00 03 00 00 00 00 01 00 00 00 04 | no
+8 | | 00 04 00 00 00 00 00 00 00 00 00 | no
+9 | | 00 | yes
+9 | | 00 00 | no
+10 | | 00 | no
+17 | 01 00 02 00 05 00 00 00 | 00 | yes
+17 | 01 00 02 00 05 00 00 00 | 00 00 | no
+";
 
-/// Open, Program, Erase, Close, Banks and Hello.
-const PLAIN: [Row; 26] = [
-    (1, b"", b"\x00\x20\x00\x00\x00\x00\x20\x00\x00", true),
-    (1, b"", b"\x00\x1f\x00\x00\x00\x00\x20\x00\x00", false),
-    (1, b"", b"\x00\x20\x00\x00\x00\x00\x20\x00", false),
-    (1, b"", b"\x03", true),
-    (3, b"\x00\x00\x00\x00\x01", b"\x00", true),
-    (3, b"\x00\x00\x00\x00\x01", b"\x02", true),
-    (3, b"\x00\x00\x00\x00\x01", b"\x02\x00", false),
-    (3, b"\x00\x00\x00\x00\x01", b"\x04", false),
-    (4, b"\x05\x00\x00\x00", b"\x00", true),
-    (4, b"\x05\x00\x00\x00", b"\x01", false),
-    (4, b"\x05\x00\x00\x00", b"", false),
-    (7, b"", b"\x00", true),
-    (7, b"", b"\x00\x00", false),
-    (8, b"", b"\x00", false),
-    (
-        8,
-        b"",
-        b"\x00\x00\x00\x00\x00\x00\x00\x00\x00\x00\x00",
-        true,
-    ),
-    (
-        8,
-        b"",
-        b"\x00\x00\x00\x00\x00\x00\x01\x00\x00\x00\x00",
-        false,
-    ),
-    (
-        8,
-        b"",
-        b"\x00\x02\x00\x00\x00\x00\x00\x00\x00\x00\x03",
-        true,
-    ),
-    (
-        8,
-        b"",
-        b"\x00\x03\x01\x00\x00\x00\xff\xff\xff\xff\x03",
-        true,
-    ),
-    (
-        8,
-        b"",
-        b"\x00\x03\x02\x00\x00\x00\x01\x00\x00\x00\x03",
-        false,
-    ),
-    (
-        8,
-        b"",
-        b"\x00\x03\x00\x00\x00\x00\x01\x00\x00\x00\x04",
-        false,
-    ),
-    (
-        8,
-        b"",
-        b"\x00\x04\x00\x00\x00\x00\x00\x00\x00\x00\x00",
-        false,
-    ),
-    (9, b"", b"\x00", true),
-    (9, b"", b"\x00\x00", false),
-    (10, b"", b"\x00", false),
-    (17, b"\x01\x00\x02\x00\x05\x00\x00\x00", b"\x00", true),
-    (17, b"\x01\x00\x02\x00\x05\x00\x00\x00", b"\x00\x00", false),
-];
+/// The same of Read and Fetch.
+const RANGES: &str = "
+2 | 00 00 00 00 02 00 00 00 | 00 07 08 | yes
+2 | 00 00 00 00 02 00 00 00 | 00 07 | no
+2 | 00 00 00 00 02 00 00 00 | 00 07 08 09 | no
+2 | 00 00 00 00 00 00 00 00 | 00 | yes
+2 | 00 00 00 00 00 00 00 | 00 | no
+6 | 00 00 00 00 01 00 00 00 | 00 07 | yes
+6 | 00 00 00 00 01 00 00 00 | 00 | no
+6 | 00 00 00 00 01 00 00 00 | 03 | yes
+";
 
-/// Read and Fetch.
-const RANGES: [Row; 8] = [
-    (
-        2,
-        b"\x00\x00\x00\x00\x02\x00\x00\x00",
-        b"\x00\x07\x08",
-        true,
-    ),
-    (2, b"\x00\x00\x00\x00\x02\x00\x00\x00", b"\x00\x07", false),
-    (
-        2,
-        b"\x00\x00\x00\x00\x02\x00\x00\x00",
-        b"\x00\x07\x08\x09",
-        false,
-    ),
-    (2, b"\x00\x00\x00\x00\x00\x00\x00\x00", b"\x00", true),
-    (2, b"\x00\x00\x00\x00\x00\x00\x00", b"\x00", false),
-    (6, b"\x00\x00\x00\x00\x01\x00\x00\x00", b"\x00\x07", true),
-    (6, b"\x00\x00\x00\x00\x01\x00\x00\x00", b"\x00", false),
-    (6, b"\x00\x00\x00\x00\x01\x00\x00\x00", b"\x03", true),
-];
+/// Of Run and Start.
+const ENDS: &str = "
+5 | 00 00 00 00 00 00 00 00 00 00 00 00 | 00 0A 40 00 00 00 00 00 00 00 00 00 00 00 09 00 00 00 | yes
+5 | 00 00 00 00 00 00 00 00 00 00 00 00 | 03 | yes
+5 | 00 00 00 00 00 00 00 00 00 00 00 00 | 00 09 40 00 00 00 00 00 00 00 00 00 00 00 09 00 00 00 | no
+5 | 00 00 00 00 00 00 00 00 00 00 00 00 | 00 00 00 00 00 00 00 00 00 00 00 00 00 00 0B 00 41 00 | yes
+5 | 00 00 00 00 00 00 00 00 00 00 00 00 | 00 00 00 00 00 00 00 00 00 00 00 00 00 00 0C 00 41 00 | no
+16 | 00 00 00 00 00 00 00 00 00 00 00 00 | 00 00 00 00 00 00 00 00 00 00 00 00 00 00 00 00 00 00 | yes
+16 | 00 00 00 00 00 00 00 00 00 00 00 00 | 00 00 00 00 00 00 00 00 00 00 00 00 00 00 01 00 00 00 | no
+16 | 00 00 00 00 00 00 00 00 00 00 00 00 | 00 0B 01 00 00 00 02 00 00 00 03 00 00 00 00 00 00 00 | yes
+16 | 00 00 00 00 00 00 00 00 00 00 00 00 | 00 0C 00 00 00 00 00 00 00 00 00 00 00 00 00 00 00 00 | no
+16 | 00 00 00 00 00 00 00 00 00 00 00 00 | 00 | no
+";
 
-/// Run and Start.
-const ENDS: [Row; 10] = [
-    (
-        5,
-        &[0; 12],
-        b"\x00\x0a\x40\x00\x00\x00\x00\x00\x00\x00\x00\x00\x00\x00\x09\x00\x00\x00",
-        true,
-    ),
-    (5, &[0; 12], b"\x03", true),
-    (
-        5,
-        &[0; 12],
-        b"\x00\x09\x40\x00\x00\x00\x00\x00\x00\x00\x00\x00\x00\x00\x09\x00\x00\x00",
-        false,
-    ),
-    (
-        5,
-        &[0; 12],
-        b"\x00\x00\x00\x00\x00\x00\x00\x00\x00\x00\x00\x00\x00\x00\x0b\x00\x41\x00",
-        true,
-    ),
-    (
-        5,
-        &[0; 12],
-        b"\x00\x00\x00\x00\x00\x00\x00\x00\x00\x00\x00\x00\x00\x00\x0c\x00\x41\x00",
-        false,
-    ),
-    (
-        16,
-        &[0; 12],
-        b"\x00\x00\x00\x00\x00\x00\x00\x00\x00\x00\x00\x00\x00\x00\x00\x00\x00\x00",
-        true,
-    ),
-    (
-        16,
-        &[0; 12],
-        b"\x00\x00\x00\x00\x00\x00\x00\x00\x00\x00\x00\x00\x00\x00\x01\x00\x00\x00",
-        false,
-    ),
-    (
-        16,
-        &[0; 12],
-        b"\x00\x0b\x01\x00\x00\x00\x02\x00\x00\x00\x03\x00\x00\x00\x00\x00\x00\x00",
-        true,
-    ),
-    (
-        16,
-        &[0; 12],
-        b"\x00\x0c\x00\x00\x00\x00\x00\x00\x00\x00\x00\x00\x00\x00\x00\x00\x00\x00",
-        false,
-    ),
-    (16, &[0; 12], b"\x00", false),
-];
+/// Of Frame and Value.
+const SHOWN: &str = "
+19 | 00 00 00 00 | 00 01 00 02 00 05 00 00 00 01 00 02 00 03 00 | yes
+19 | 00 00 00 00 | 00 01 00 02 00 05 00 00 00 01 00 02 00 03 | no
+20 | 00 00 00 00 00 00 00 | 00 00 FF FF FF FF FF FF FF FF 00 00 00 00 | yes
+20 | 00 00 00 00 00 00 00 | 00 08 00 00 00 00 00 00 00 00 01 00 02 00 | yes
+20 | 00 00 00 00 00 00 00 | 00 09 00 00 00 00 00 00 00 00 01 00 02 00 | no
+20 | 00 00 00 00 00 00 00 | 00 00 00 00 00 00 00 00 00 00 00 00 00 | no
+";
 
-/// Frame and Value.
-const SHOWN: [Row; 6] = [
-    (
-        19,
-        &[0; 4],
-        b"\x00\x01\x00\x02\x00\x05\x00\x00\x00\x01\x00\x02\x00\x03\x00",
-        true,
-    ),
-    (
-        19,
-        &[0; 4],
-        b"\x00\x01\x00\x02\x00\x05\x00\x00\x00\x01\x00\x02\x00\x03",
-        false,
-    ),
-    (
-        20,
-        &[0; 7],
-        b"\x00\x00\xff\xff\xff\xff\xff\xff\xff\xff\x00\x00\x00\x00",
-        true,
-    ),
-    (
-        20,
-        &[0; 7],
-        b"\x00\x08\x00\x00\x00\x00\x00\x00\x00\x00\x01\x00\x02\x00",
-        true,
-    ),
-    (
-        20,
-        &[0; 7],
-        b"\x00\x09\x00\x00\x00\x00\x00\x00\x00\x00\x01\x00\x02\x00",
-        false,
-    ),
-    (
-        20,
-        &[0; 7],
-        b"\x00\x00\x00\x00\x00\x00\x00\x00\x00\x00\x00\x00\x00",
-        false,
-    ),
-];
-
-/// The place of the last Break, a reply's payload, and whether it matches a Continue.
-const STATES: [(Option<u32>, &[u8], bool); 8] = [
-    (
-        None,
-        b"\x00\x00\x07\x00\x00\x00\x00\x00\x00\x00\x02\x00\x00\x00",
-        true,
-    ),
-    (
-        Some(5),
-        b"\x00\x00\x07\x00\x00\x00\x00\x00\x00\x00\x02\x00\x00\x00",
-        true,
-    ),
-    (
-        Some(0xFFFF_FFFF),
-        b"\x00\x00\x07\x00\x00\x00\x00\x00\x00\x00\x02\x00\x00\x00",
-        false,
-    ),
-    (
-        Some(0xFFFF_FFFF),
-        b"\x00\x01\x07\x00\x00\x00\x00\x00\x00\x00\x0b\x00\x41\x00",
-        true,
-    ),
-    (
-        None,
-        b"\x00\x01\x07\x00\x00\x00\x00\x00\x00\x00\x0c\x00\x41\x00",
-        false,
-    ),
-    (
-        None,
-        b"\x00\x0c\x07\x00\x00\x00\x00\x00\x00\x00\xff\xff\xff\xff",
-        true,
-    ),
-    (
-        None,
-        b"\x00\x02\x07\x00\x00\x00\x00\x00\x00\x00\x00\x00\x00\x00",
-        false,
-    ),
-    (
-        None,
-        b"\x00\x00\x07\x00\x00\x00\x00\x00\x00\x00\x02\x00\x00",
-        false,
-    ),
-];
+/// The place of the last Break in hex digits, a reply's payload, and whether it matches a Continue.
+const STATES: &str = "
+- | 00 00 07 00 00 00 00 00 00 00 02 00 00 00 | yes
+5 | 00 00 07 00 00 00 00 00 00 00 02 00 00 00 | yes
+FFFFFFFF | 00 00 07 00 00 00 00 00 00 00 02 00 00 00 | no
+FFFFFFFF | 00 01 07 00 00 00 00 00 00 00 0B 00 41 00 | yes
+- | 00 01 07 00 00 00 00 00 00 00 0C 00 41 00 | no
+- | 00 0C 07 00 00 00 00 00 00 00 FF FF FF FF | yes
+- | 00 02 07 00 00 00 00 00 00 00 00 00 00 00 | no
+- | 00 00 07 00 00 00 00 00 00 00 02 00 00 | no
+";
 
 /// Whether a reply to the request number 3 matches it. As a request the same packet never does.
 fn answers(rt: &impl Abort, last: Option<u32>, command: u32, payload: &[u8], reply: &[u8]) -> bool {
@@ -242,28 +94,48 @@ fn answers(rt: &impl Abort, last: Option<u32>, command: u32, payload: &[u8], rep
     matches(last, &request, &Packet::new(command, 9, 3, 1, reply))
 }
 
-fn rows(rt: &impl Abort, rows: &[Row]) {
-    for (command, payload, reply, wanted) in rows {
-        assert!(rt;
-            answers(rt, None, *command, payload, reply) == *wanted,
-            "{command}"
+fn rows(rt: &(impl Abort + AllocGlobal), rows: &str) -> Result<(), Fail> {
+    let lines = lines_of(rt.alloc(), rows, '|')?;
+    for line in lines.as_slice() {
+        let payload = line.bytes(rt.alloc(), 1)?;
+        let reply = line.bytes(rt.alloc(), 2)?;
+        let told = answers(
+            rt,
+            None,
+            line.number(0)?,
+            payload.as_slice(),
+            reply.as_slice(),
         );
+        assert!(rt; told == line.is_yes(3), "{}", line.text(0));
+    }
+    Ok(())
+}
+
+#[test]
+fn replies_of_each_command(rt: HostRuntime) -> Result<(), Fail> {
+    rows(&rt, PLAIN)?;
+    rows(&rt, RANGES)?;
+    rows(&rt, ENDS)?;
+    rows(&rt, SHOWN)
+}
+
+/// The place of the last Break that a line tells.
+fn last_of(line: &Line<'_>) -> Result<Option<u32>, Fail> {
+    match line.option(0) {
+        Some(_) => Ok(Some(line.hex(0)?)),
+        None => Ok(None),
     }
 }
 
 #[test]
-fn replies_of_each_command(rt: HostRuntime) {
-    rows(&rt, &PLAIN);
-    rows(&rt, &RANGES);
-    rows(&rt, &ENDS);
-    rows(&rt, &SHOWN);
-}
-
-#[test]
-fn states_of_a_started_run(rt: HostRuntime) {
-    for (last, reply, wanted) in &STATES {
-        assert!(rt; answers(&rt, *last, 18, &[], reply) == *wanted);
+fn states_of_a_started_run(rt: HostRuntime) -> Result<(), Fail> {
+    let lines = lines_of(rt.alloc(), STATES, '|')?;
+    for line in lines.as_slice() {
+        let reply = line.bytes(rt.alloc(), 1)?;
+        let told = answers(&rt, last_of(line)?, 18, &[], reply.as_slice());
+        assert!(rt; told == line.is_yes(2), "{}", line.text(1));
     }
+    Ok(())
 }
 
 /// The most bytes that a Read takes.

@@ -1,6 +1,6 @@
+use crate::files::{file_of, id_of};
 use base_lib::files;
-use cil_build::build::{Build, BuildRefusal};
-use cil_build::refs::RefRow;
+use case_text::{Line, lines_of};
 use cil_layout::rows::TYPE_DEF;
 use cil_world::{World, WorldRefusal};
 use ecma_types::id::TypeId;
@@ -8,98 +8,61 @@ use plain_types::fault::{Fault, Place, WHOLE_FILE};
 use std::alloc::Global;
 use std::test::Fail;
 
-pub fn add(b: &mut Build, alloc: Global, row: &RefRow<'_>) -> Result<u32, BuildRefusal> {
-    if !b.has_room(row.table()) {
-        return Err(BuildRefusal::Full);
-    }
-    Ok(b.add_ref(alloc, row)?)
-}
+/// A type and one inside it.
+const NESTED: &str = "
+type | 00100001 | | Ns Outer
+type | 00100001 | | Ns Inner
+nested | 02000003 | 02000002
+";
 
-pub fn add_assembly(
-    b: &mut Build,
-    alloc: Global,
-    name: &str,
-    version: [u16; 4],
-) -> Result<u32, BuildRefusal> {
-    add(b, alloc, &RefRow::Assembly { name, version })
-}
-
-fn add_reference(
-    b: &mut Build,
-    alloc: Global,
-    scope: u32,
-    namespace: &str,
-    name: &str,
-) -> Result<(), BuildRefusal> {
-    let row = RefRow::TypeOf {
-        scope,
-        namespace,
-        name,
-    };
-    let _reference = add(b, alloc, &row)?;
-    Ok(())
-}
-
-fn add_class(b: &mut Build, alloc: Global, name: &str) -> Result<u32, BuildRefusal> {
-    if !b.has_room(TYPE_DEF) {
-        return Err(BuildRefusal::Full);
-    }
-    Ok(b.add_type(alloc, 0x0010_0001, "Ns", name, 0)?)
-}
-
-/// An assembly with a type and one inside it.
-fn with_nested(alloc: Global) -> Result<Vec<u8>, BuildRefusal> {
-    let mut b = Build::new(alloc, "Nested", [1, 2, 3, 4])?;
-    let enclosing = add_class(&mut b, alloc, "Outer")?;
-    let nested = add_class(&mut b, alloc, "Inner")?;
-    let _row = add(&mut b, alloc, &RefRow::Nested { nested, enclosing })?;
-    b.finish(alloc)
-}
-
-/// An assembly whose references name types of the others, or nothing.
-fn with_references(alloc: Global) -> Result<Vec<u8>, BuildRefusal> {
-    let mut b = Build::new(alloc, "References", [1, 0, 0, 0])?;
-    let library = add_assembly(&mut b, alloc, "mscorlib", [4, 3, 1, 0])?;
-    let older = add_assembly(&mut b, alloc, "mscorlib", [4, 3, 0, 0])?;
-    let other = add_assembly(&mut b, alloc, "Nested", [1, 2, 3, 4])?;
-    add_reference(&mut b, alloc, library, "System", "Object")?;
-    add_reference(&mut b, alloc, older, "System", "Object")?;
-    add_reference(&mut b, alloc, library, "System", "Objects")?;
-    // Inside the one behind it, which stands in the other assembly.
-    add_reference(&mut b, alloc, 0x0100_0005, "Ns", "Inner")?;
-    add_reference(&mut b, alloc, other, "Ns", "Outer")?;
-    add_reference(&mut b, alloc, other, "Ns", "Inner")?;
-    // Inside itself.
-    add_reference(&mut b, alloc, 0x0100_0007, "Ns", "Inner")?;
-    let _own = add_class(&mut b, alloc, "Own")?;
-    b.finish(alloc)
-}
+/// References to types of the others, or to nothing: the fourth is inside the one behind it, which stands in the other assembly, and the
+/// seventh inside itself.
+const REFERENCES: &str = "
+assembly | | | mscorlib | 04 03 01 00
+assembly | | | mscorlib | 04 03 00 00
+assembly | | | Nested | 01 02 03 04
+reference | 23000001 | | System Object
+reference | 23000002 | | System Object
+reference | 23000001 | | System Objects
+reference | 01000005 | | Ns Inner
+reference | 23000003 | | Ns Outer
+reference | 23000003 | | Ns Inner
+reference | 01000007 | | Ns Inner
+type | 00100001 | | Ns Own
+";
 
 fn world_files(alloc: Global) -> Result<Vec<Vec<u8>>, Fail> {
     let mut all = files(alloc).ok().ok_or("the library is made")?;
-    all.push(with_nested(alloc).ok().ok_or("it is made")?)?;
-    all.push(with_references(alloc).ok().ok_or("it is made")?)?;
+    all.push(file_of(alloc, "Nested", [1, 2, 3, 4], NESTED)?)?;
+    all.push(file_of(alloc, "References", [1, 0, 0, 0], REFERENCES)?)?;
     Ok(all)
 }
 
-/// What tokens of the last file name.
-const NAMED: [(u32, Option<TypeId>); 15] = [
-    (0x0100_0001, Some(TypeId { file: 0, row: 2 })),
-    (0x0100_0002, None),
-    (0x0100_0003, None),
-    (0x0100_0004, Some(TypeId { file: 2, row: 3 })),
-    (0x0100_0005, Some(TypeId { file: 2, row: 2 })),
-    (0x0100_0006, None),
-    (0x0100_0007, None),
-    (0x0100_0008, None),
-    (0x0200_0001, Some(TypeId { file: 3, row: 1 })),
-    (0x0200_0002, Some(TypeId { file: 3, row: 2 })),
-    (0x0200_0003, None),
-    (0x0200_0000, None),
-    (0x0100_0000, None),
-    (0x2300_0001, None),
-    (0xFFFF_FFFF, None),
-];
+/// Tokens of the last file, and the file and the row of the type that they name.
+const NAMED: &str = "
+01000001 | 0 2
+01000002 | -
+01000003 | -
+01000004 | 2 3
+01000005 | 2 2
+01000006 | -
+01000007 | -
+01000008 | -
+02000001 | 3 1
+02000002 | 3 2
+02000003 | -
+02000000 | -
+01000000 | -
+23000001 | -
+FFFFFFFF | -
+";
+
+fn type_of(alloc: Global, line: &Line<'_>) -> Result<Option<TypeId>, Fail> {
+    match id_of(alloc, line, 1)? {
+        Some((file, row)) => Ok(Some(TypeId { file, row })),
+        None => Ok(None),
+    }
+}
 
 #[test]
 fn tokens_of_types(rt: HostRuntime) -> Result<(), Fail> {
@@ -109,8 +72,10 @@ fn tokens_of_types(rt: HostRuntime) -> Result<(), Fail> {
         .ok()
         .ok_or("no rule is broken")?;
     assert_eq!(rt; world.files(), 4);
-    for (token, named) in NAMED {
-        assert_eq!(rt; world.resolve_type(3, token).ok(), named, "{token:x}");
+    let lines = lines_of(rt.alloc(), NAMED, '|')?;
+    for line in lines.as_slice() {
+        let named = world.resolve_type(3, line.hex(0)?).ok();
+        assert_eq!(rt; named, type_of(rt.alloc(), line)?, "{}", line.text(0));
     }
     assert_eq!(rt; world.tables(2).rows(TYPE_DEF), 3);
     assert_eq!(rt; world.pe(2).entry(), 0);

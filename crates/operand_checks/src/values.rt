@@ -1,6 +1,6 @@
 //! Rule 53: the types of values (ECMA-335 III.1.5, III.3, III.4).
 
-use crate::rows::methods_are_told;
+use crate::told::methods_are_told;
 use std::test::Fail;
 
 /// Numbers, comparisons and conditions (III.1.5).

@@ -1,10 +1,4 @@
-//! The stage: an assembly to which each case adds a class with one method, or types.
-//!
-//! A line is a row: its kind, two numbers, a name, and bytes, all numbers in hex digits.
-//! - assembly: name. reference: scope, namespace and name. member: parent, name, signature.
-//! - type: flags, superclass, name. interface: class, interface. layout: size, class.
-//! - field: flags, name, signature, data. method: flags, name, signature, body.
-//! - spec, locals: signature.
+//! The stage: an assembly to which each case adds a class with one method, or types. Its lines are rows, as `assembly_rows::lines` reads them.
 //!
 //! Types, from token 02000002 on: Program; Base with fields and methods of each kind; Derived, its subclass; Abstract with an abstract
 //! Turn; the interface Shape with Area; Square and Disc, which implement it; the enums Color, of an int, and Wide, of a long; the data

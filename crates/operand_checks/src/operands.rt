@@ -1,10 +1,6 @@
 //! Rule 46: what operands name (ECMA-335 III.3, III.4).
 
-use crate::rows::{methods_are_told, methods_are_told_behind};
-use assembly_rows::change::Change;
-use assembly_rows::change::Change::Column;
-use assembly_rows::change::Value::Is;
-use cil_layout::rows::TYPE_DEF;
+use crate::told::{methods_are_told, methods_are_told_behind};
 use std::test::Fail;
 
 /// Literals and methods.
@@ -72,12 +68,7 @@ fn methods_named(rt: HostRuntime) -> Result<(), Fail> {
 }
 
 /// The library's System.Array, its fifth type, without the flag of abstract types (II.23.1.15).
-const PLAIN_ARRAY: Change = Column {
-    table: TYPE_DEF,
-    row: 5,
-    column: 0,
-    value: Is(0x0010_0001),
-};
+const PLAIN_ARRAY: &str = "is | 02 | 5 | 0 | 00100001";
 
 /// Behind such a library no object is made of System.Array either, and of others as behind any.
 const BEHIND_PLAIN_ARRAY: &str = "
@@ -88,7 +79,7 @@ const BEHIND_PLAIN_ARRAY: &str = "
 
 #[test]
 fn arrays_that_are_not_abstract(rt: HostRuntime) -> Result<(), Fail> {
-    methods_are_told_behind(&rt, &[PLAIN_ARRAY], BEHIND_PLAIN_ARRAY)
+    methods_are_told_behind(&rt, PLAIN_ARRAY, BEHIND_PLAIN_ARRAY)
 }
 
 /// Fields of objects.

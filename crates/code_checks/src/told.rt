@@ -1,0 +1,25 @@
+//! Cases in lines are as they are wanted.
+
+use staged_cases::{Case, methods_told, types_told};
+use std::process::Abort;
+use std::test::Fail;
+
+fn are_as_wanted(rt: &impl Abort, cases: &[Case<'_>]) {
+    for case in cases {
+        assert_eq!(rt; case.told, case.wanted, "{}", case.name);
+    }
+}
+
+/// Cases of methods, as `staged_cases` reads them.
+pub fn methods_are_told(rt: &(impl Abort + AllocGlobal), lines: &str) -> Result<(), Fail> {
+    let cases = methods_told(rt.alloc(), lines)?;
+    are_as_wanted(rt, cases.as_slice());
+    Ok(())
+}
+
+/// Cases of types.
+pub fn types_are_told(rt: &(impl Abort + AllocGlobal), lines: &str) -> Result<(), Fail> {
+    let cases = types_told(rt.alloc(), lines)?;
+    are_as_wanted(rt, cases.as_slice());
+    Ok(())
+}
