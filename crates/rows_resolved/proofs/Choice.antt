@@ -8,13 +8,13 @@ use Rattle.machine.specs.Throw.{on_some}
 use Rattle.classes.specs.Classes.{SigType, ClassToken}
 use Rattle.class_rules.specs.Rules.{holds_some}
 use Rattle.class_rules.proofs.Kept.{holds_inv}
-use Rattle.assemblies.specs.Rows.{TypeToken, TypeDef, TypeRef, TypeSpec, MemberToken, Own, Reference, Scope, OfAssembly, Inside, Nowhere, RawType, RawCode, AssemblyRow, TypeRefRow, FieldRefRow, MethodRefRow, TypeRow, FieldRow, MethodRow, Assembly}
+use Rattle.assemblies.specs.Rows.{TypeToken, TypeDef, TypeRef, TypeSpec, MemberToken, Own, Reference, Scope, OfAssembly, Inside, Nowhere, RawType, TypeRefRow, FieldRefRow, MethodRefRow, TypeRow, FieldRow, MethodRow, Assembly}
 use Rattle.assemblies.specs.Binding.{id_at, same_assembly, first_number, assembly_of, type_in, in_scope, resolve_ref, resolve, expanded, resolve_method, resolve_field, method_owner, field_owner, operand_type, holds}
 use Rattle.assemblies.specs.Chosen.{Choice}
 use Rattle.assemblies.specs.Closed.{Each}
 use Rattle.assemblies.proofs.Binds.{on_some_back, map_back}
-use Rattle.kept_closure.specs.Named.{Stands, InOption, InType, InSignature, InCode, EachName}
-use Rattle.kept_closure.specs.Kept.{HasType, HasScope, HasRow, HasMethod, HasField, HasNamed, is_literal, HasAll, NamesClass, NamesOperand, NamesScope, NamesRow, NamesMethod, NamesField, Resolves}
+use Rattle.kept_closure.specs.Named.{Stands, InOption, InType, InSignature, InCode}
+use Rattle.kept_closure.specs.Kept.{HasType, HasScope, HasRow, HasMethod, HasField, HasNamed, is_literal, HasAll, NamesClass, NamesOperand, NamesRow, NamesMethod, NamesField, Resolves}
 use Rattle.kept_closure.proofs.ClosedLaws.{ref_row}
 use Rattle.kept_rules.specs.Row.{Row, AssemblyRefAt, TypeRefAt, FieldRefAt, MethodRefAt, TypeAt, FieldAt, MethodAt, SpecAt, marks}
 use Rattle.kept_rules.specs.Rules.{MembersStand}

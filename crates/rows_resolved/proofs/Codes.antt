@@ -1,7 +1,7 @@
 -- The code of an accepted file: the types of locals, the classes of catches and the operands of all instructions resolve.
-use Rattle.std.proofs.Common.{◌≡◌, ℕ, zero, suc, ◌+◌, Bool, true, false, cond, List, [], ◌∷◌, ◌++◌, map, take, Option, Some, None, refl, sym, ap, ◌∙◌, subst, arith}
-use Rattle.std.specs.Prelude.{◌&&◌, ◌==◌, if◌then◌else◌, slice_get, slice_index, unwrap_or, Result, Ok, Err}
-use Rattle.std.specs.List.{find, position, filter_map, cons_option}
+use Rattle.std.proofs.Common.{◌≡◌, ℕ, zero, suc, ◌+◌, Bool, true, false, cond, List, [], ◌∷◌, ◌++◌, map, Option, Some, None, refl, sym, ap, ◌∙◌, subst}
+use Rattle.std.specs.Prelude.{◌==◌, if◌then◌else◌, slice_get, slice_index, unwrap_or, Result, Ok, Err}
+use Rattle.std.specs.List.{find, filter_map, cons_option}
 use Rattle.std.specs.Option.{option_map}
 use Rattle.std.proofs.lemmas.Bool.{and_parts}
 use Rattle.std.proofs.lemmas.Option.{slice_get-map}
@@ -9,15 +9,15 @@ use Rattle.cil_opcodes.specs.declared.shape.Row.{Row}
 use Rattle.cil_opcodes.specs.Rows.{row_of}
 use Rattle.cil_code.specs.Bodies.{BodyPart}
 use Rattle.cil_code.specs.Walk.{Placed, instructions_of, code_fault}
-use Rattle.file_tables.specs.Metadata.{MetadataPart, rows_of}
+use Rattle.file_tables.specs.Metadata.{MetadataPart}
 use Rattle.file_tables.specs.File.{FilePart}
 use Rattle.machine.specs.Data.{Id, CliType, ClassOf, id_eq}
-use Rattle.machine.specs.Program.{Method, Body, Code, Missing}
+use Rattle.machine.specs.Program.{Method, Code, Missing}
 use Rattle.machine.specs.Throw.{on_some}
 use Rattle.machine_typed.proofs.Types.{id_same}
 use Rattle.machine_typed.specs.Typing.{StackType}
 use Rattle.classes.specs.Classes.{Classes, Signature, OwnMethod}
-use Rattle.classes.specs.Code.{CodeLine, CodeClause, CatchOf, MethodCode, Sources}
+use Rattle.classes.specs.Code.{CodeLine, CatchOf, MethodCode, Sources}
 use Rattle.classes.specs.Listed.{method, method_with, no_code, instruction_of}
 use Rattle.classes.specs.Queries.{or_else, methods_of, method_at}
 use Rattle.class_rules.specs.Rules.{signature_fits}
@@ -30,20 +30,19 @@ use Rattle.assemblies.proofs.Belong.{Listed, listed}
 use Rattle.kept_closure.specs.Named.{Stands, InOption, InKind, InClause, InLine, InCode}
 use Rattle.kept_closure.specs.Kept.{NamesClass, NamesMethod}
 use Rattle.world_rows.specs.Tokens.{methods}
-use Rattle.world_rows.specs.Rows as rows
 use Rattle.world_rows.specs.Rows.{is_internal}
-use Rattle.world_rows.specs.Lines.{is_locals_token, line_by, raw_line, lines_of, raw_clause, body_part, raw_code}
+use Rattle.world_rows.specs.Lines.{is_locals_token, line_by, raw_line, lines_of, body_part, raw_code}
 use Rattle.world_rows.specs.World.{size_of, rows_alone, assemblies_of, ecma_sources}
 use Rattle.code_rules.specs.Pass.{Lattice, Entry, Step, After, visit, fallen, if_sound, pass}
-use Rattle.code_rules.specs.Verdict.{operand_fits, step_with, step_of, steps_from, passed}
+use Rattle.code_rules.specs.Verdict.{operand_fits, step_of, steps_from, passed}
 use Rattle.code_rules.specs.Judgement.{lattice_of, catches_well, steps_of}
 use Rattle.code_rules.proofs.StepLaws.{unbroken}
 use Rattle.verdict_rules.specs.Order.{Test, fault_of, first_fault, phase_fault}
-use Rattle.verdict_rules.specs.World.{World, world_of, exception_of, method_row, no_type}
-use Rattle.verdict_rules.specs.Code.{unowned, method_here, walk_test, target_test, clause_well, clause_test, pass_test, listed_tests, body_of, body_tests, is_code, method_tests, code_tests, code_rules}
+use Rattle.verdict_rules.specs.World.{World, world_of, exception_of, no_type}
+use Rattle.verdict_rules.specs.Code.{unowned, method_here, walk_test, target_test, clause_test, pass_test, listed_tests, body_of, body_tests, is_code, method_tests, code_tests, code_rules}
 use Rattle.verdict_rules.specs.Verdict.{member_rules}
 use Rattle.verdict_laws.proofs.Kept.{head_kept, row_kept}
-use Rattle.verdict_laws.proofs.Rows.{native, from_zero, whole, file_at}
+use Rattle.verdict_laws.proofs.Rows.{native, from_zero}
 use Rattle.rows_resolved.proofs.Named.{each_by}
 use Rattle.rows_resolved.proofs.Choice.{NamesType, NamesVariable}
 use Rattle.rows_resolved.proofs.Members.{OfMethod, method_of, signature_told}

@@ -1,5 +1,5 @@
 -- The entry of an accepted file is one of its methods (rule 23).
-use Rattle.std.proofs.Common.{◌≡◌, ◌⊎◌, inl, inr, ℕ, zero, suc, ◌+◌, Bool, true, false, List, [], ◌∷◌, drop, take, Option, Some, None, refl, sym, ap, ◌∙◌, subst, arith}
+use Rattle.std.proofs.Common.{◌≡◌, ◌⊎◌, inl, inr, ℕ, suc, ◌+◌, Bool, true, false, List, [], ◌∷◌, drop, take, Option, Some, None, refl, sym, ap, ◌∙◌, subst, arith}
 use Rattle.std.specs.Prelude.{◌&&◌, ◌==◌, not, nat_le, if◌then◌else◌, slice_get}
 use Rattle.std.specs.List.{list_any}
 use Rattle.std.proofs.lemmas.Bool.{and_parts, and_from, cases_Bool, eqb-true}
@@ -7,7 +7,7 @@ use Rattle.plain_types.specs.declared.fault.TheConstants.{WHOLE_FILE}
 use Rattle.file_tables.specs.File.{FilePart}
 use Rattle.machine.specs.Data.{Id}
 use Rattle.machine.specs.Throw.{on_some}
-use Rattle.class_rules.specs.Rules.{holds_some, only_if, entry_fits}
+use Rattle.class_rules.specs.Rules.{holds_some, entry_fits}
 use Rattle.class_rules.proofs.Kept.{holds_inv, only_then}
 use Rattle.assemblies.specs.Rows.{MethodRow, Assembly}
 use Rattle.assemblies.specs.Binding.{id_at, entry_from}
@@ -18,7 +18,6 @@ use Rattle.verdict_rules.specs.Order.{phase_fault}
 use Rattle.verdict_rules.specs.World.{World, world_of}
 use Rattle.verdict_rules.specs.Types.{entry_tests, type_rules, has_entry, own_entry_well, some_entry, begins_in}
 use Rattle.verdict_laws.proofs.Kept.{tests_kept, whole_kept}
-use Rattle.verdict_laws.proofs.Rows.{whole}
 use Rattle.rows_resolved.proofs.Types.{file_of}
 
 -- the first entry is a method of its assembly

@@ -7,3 +7,4 @@ pub mod Operands
 pub mod Locals
 pub mod Codes
 pub mod Accepted
+pub mod Classes

@@ -1,15 +1,12 @@
 -- The rows of fields and methods of accepted files: their signatures are told (rule 27), and the entry is a method (rule 23).
-use Rattle.std.proofs.Common.{◌≡◌, ℕ, zero, suc, ◌+◌, ◌≤◌, Bool, true, false, List, [], ◌∷◌, Option, Some, None, refl, sym, ap, ◌∙◌, subst, arith}
-use Rattle.std.specs.Prelude.{◌&&◌, ◌==◌, not, nat_le, if◌then◌else◌, slice_get, slice_index, unwrap_or}
-use Rattle.std.specs.List.{list_any}
+use Rattle.std.proofs.Common.{◌≡◌, ℕ, suc, true, List, [], Some, None, refl, sym, ap, ◌∙◌, subst}
+use Rattle.std.specs.Prelude.{◌==◌, if◌then◌else◌, slice_get, slice_index, unwrap_or}
 use Rattle.std.specs.Option.{option_map}
-use Rattle.std.proofs.lemmas.Bool.{and_parts}
 use Rattle.file_tables.specs.Metadata.{rows_of}
 use Rattle.file_tables.specs.File.{FilePart}
-use Rattle.machine.specs.Data.{Id}
 use Rattle.machine.specs.Throw.{on_some}
-use Rattle.classes.specs.Classes.{Classes, OwnField}
-use Rattle.class_rules.specs.Rules.{holds_some, sig_fits, data_sig_fits, is_data_kind, field_signature_fits, signature_fits}
+use Rattle.classes.specs.Classes.{Classes}
+use Rattle.class_rules.specs.Rules.{holds_some, sig_fits, data_sig_fits, is_data_kind, signature_fits}
 use Rattle.class_rules.proofs.Kept.{holds_inv}
 use Rattle.assemblies.specs.Rows.{FieldRow, MethodRow, Assembly}
 use Rattle.assemblies.specs.Binding.{id_at, own_field, expanded, expanded_signature}
@@ -20,7 +17,7 @@ use Rattle.world_rows.specs.Tokens.{fields, methods, bytes_at}
 use Rattle.world_rows.specs.Rows as rows
 use Rattle.world_rows.specs.Kinds.{data_of}
 use Rattle.world_rows.specs.World.{size_of, rows_alone, assemblies_of, ecma_sources}
-use Rattle.verdict_rules.specs.Order.{first_fault, phase_fault}
+use Rattle.verdict_rules.specs.Order.{phase_fault}
 use Rattle.verdict_rules.specs.World.{World, world_of, field_row}
 use Rattle.verdict_rules.specs.Members.{field_wrong, field_tests, method_wrong, method_tests}
 use Rattle.verdict_rules.specs.Verdict.{member_rules}

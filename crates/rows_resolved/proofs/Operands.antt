@@ -1,6 +1,6 @@
 -- What an instruction names resolves where its operand is of the kind that its shape takes (rule 46).
 use Rattle.std.proofs.Common.{◌≡◌, ℕ, zero, suc, ◌+◌, ◌-◌, ℤ, Bool, true, false, List, [], ◌∷◌, Option, Some, None, refl, sym, ap, ◌∙◌, subst}
-use Rattle.std.specs.Prelude.{◌&&◌, ◌==◌, not, nat_lt, is_some, if◌then◌else◌, slice_get, unwrap_or}
+use Rattle.std.specs.Prelude.{◌&&◌, not, nat_lt, is_some, if◌then◌else◌, slice_get, unwrap_or}
 use Rattle.std.specs.Option.{option_map}
 use Rattle.std.specs.List.{find}
 use Rattle.std.proofs.lemmas.Bool.{and_parts}
@@ -23,10 +23,9 @@ use Rattle.classes.specs.Queries.{is_instance_kind, is_static_kind, data_of, fie
 use Rattle.classes.specs.Listed.{type_of_operand, field_of, method_of}
 use Rattle.class_rules.specs.Rules.{holds_some}
 use Rattle.class_rules.proofs.Kept.{holds_inv}
-use Rattle.class_rules.proofs.Slots.{found}
 use Rattle.code_rules.specs.Verdict.{names_type, names_field, names_method, is_instance_field, is_callable, is_new, operand_fits}
-use Rattle.assemblies.specs.Rows.{TypeToken, MemberToken, RawOperand, RawNothing, RawNumber, RawTargets, RawTypeOf, RawField, RawMethod, RawText, FieldRow, TypeRow, Assembly}
-use Rattle.assemblies.specs.Binding.{id_at, numbered, range, own_field, class_with, or_unresolved, operand, operand_type, resolve_field, resolve_method, classes_of}
+use Rattle.assemblies.specs.Rows.{TypeToken, MemberToken, RawOperand, RawNothing, RawTypeOf, RawField, RawMethod, FieldRow, Assembly}
+use Rattle.assemblies.specs.Binding.{id_at, range, own_field, class_with, or_unresolved, operand, operand_type, resolve_field, resolve_method, classes_of}
 use Rattle.assemblies.proofs.Binds.{on_some_back, map_back}
 use Rattle.assemblies.proofs.Numbered.{find_row}
 use Rattle.kept_closure.specs.Named.{InOperand}

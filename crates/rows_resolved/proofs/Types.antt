@@ -1,7 +1,7 @@
 -- The rows of types of accepted files: what they name is there (rules 12, 24 and 25).
-use Rattle.std.proofs.Common.{◌≡◌, ℕ, zero, suc, ◌+◌, ◌-◌, ◌<◌, ◌≤◌, Bool, true, false, cond, List, [], ◌∷◌, map, Option, Some, None, refl, sym, ap, ◌∙◌, subst, arith}
-use Rattle.std.specs.Prelude.{◌&&◌, ◌==◌, not, nat_le, if◌then◌else◌, is_some, slice_get, slice_index}
-use Rattle.std.specs.List.{list_all, filter, find, enumerate_from}
+use Rattle.std.proofs.Common.{◌≡◌, ℕ, suc, ◌-◌, ◌<◌, ◌≤◌, Bool, true, false, cond, List, [], ◌∷◌, map, Option, Some, None, refl, sym, ap, ◌∙◌, subst, arith}
+use Rattle.std.specs.Prelude.{◌==◌, not, nat_le, if◌then◌else◌, is_some, slice_get, slice_index}
+use Rattle.std.specs.List.{filter, enumerate_from}
 use Rattle.std.specs.Option.{option_map}
 use Rattle.std.proofs.lemmas.Bool.{and_parts, leb-true}
 use Rattle.std.proofs.lemmas.Option.{get_or_from_slice_get}
@@ -10,15 +10,14 @@ use Rattle.file_tables.specs.declared.schema.Column.TheVariants.{RowOf}
 use Rattle.file_tables.specs.Schema.{columns_of}
 use Rattle.file_tables.specs.Metadata.{MetadataPart, rows_of, row_count, column_of, is_row_in, is_column, is_row, token_row}
 use Rattle.file_tables.specs.File.{FilePart}
-use Rattle.machine.specs.Data.{Id}
 use Rattle.machine.specs.Throw.{on_some}
 use Rattle.classes.specs.Classes.{TypeKind, Class, Classes}
-use Rattle.class_rules.specs.Rules.{holds_some, only_if, extends_well, may_be_implemented}
+use Rattle.class_rules.specs.Rules.{only_if, extends_well, may_be_implemented}
 use Rattle.class_rules.proofs.Kept.{holds_inv}
 use Rattle.class_rules.proofs.Slots.{found}
 use Rattle.class_rules.proofs.Ways.{all_at}
 use Rattle.assemblies.specs.Rows.{TypeToken, TypeRow, Assembly}
-use Rattle.assemblies.specs.Binding.{id_at, resolve, class_with, class_at}
+use Rattle.assemblies.specs.Binding.{id_at, resolve, class_with}
 use Rattle.assemblies.specs.Closed.{Each}
 use Rattle.assemblies.proofs.Back.{get_within, get_there}
 use Rattle.assemblies.proofs.Belong.{some_map}
@@ -28,7 +27,7 @@ use Rattle.world_rows.specs.Tokens.{type_defs, interface_impls, nested_classes, 
 use Rattle.world_rows.specs.Rows.{type_row, first_of, row_with, enclosing_of, interfaces_of}
 use Rattle.world_rows.specs.Kinds.{kind_of}
 use Rattle.world_rows.specs.World.{type_count, size_of, rows_alone, assemblies_of, ecma_sources}
-use Rattle.verdict_rules.specs.Order.{Test, first_fault, phase_fault}
+use Rattle.verdict_rules.specs.Order.{first_fault, phase_fault}
 use Rattle.verdict_rules.specs.World.{World, world_of}
 use Rattle.verdict_rules.specs.Types.{of_class, class_tests, type_tests, interface_tests, type_rules, is_found}
 use Rattle.verdict_laws.proofs.Kept.{tests_kept, row_kept}
