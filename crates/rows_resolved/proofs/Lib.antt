@@ -1,0 +1,10 @@
+pub mod Named
+pub mod Choice
+pub mod Types
+pub mod Members
+pub mod Entry
+pub mod Operands
+pub mod Locals
+pub mod Codes
+pub mod Accepted
+pub mod Classes
