@@ -14,7 +14,7 @@ use Rattle.root_marks.specs.Roots.{root_names}
 -- ---- lists
 
 module _ {A B : Type 0} (g : A → Option B) where
-  in_filter_map : (xs : List A) (x : A) (z : B) → Among xs x → g x ≡ Some z → Among (filter_map g xs) z
+  pub in_filter_map : (xs : List A) (x : A) (z : B) → Among xs x → g x ≡ Some z → Among (filter_map g xs) z
   in_filter_map [] x z (k, e) h = absurd (cc e)
   in_filter_map (y ∷ ys) x z (zero, e) h = let same : y ≡ x = cc e in go (g y) (ap g same ∙ h)
     where
@@ -27,14 +27,14 @@ module _ {A B : Type 0} (g : A → Option B) where
       go None r = r
       go (Some w) r = later w (filter_map g ys) z r
 
-  from_filter_map : (xs : List A) (z : B) → Among (filter_map g xs) z → (x : A) × (g x ≡ Some z)
+  pub from_filter_map : (xs : List A) (z : B) → Among (filter_map g xs) z → (x : A) × (Among xs x × (g x ≡ Some z))
   from_filter_map [] z (k, e) = absurd (cc e)
   from_filter_map (y ∷ ys) z h = go (g y) refl h (from_filter_map ys z)
     where
-      go : (o : Option B) → g y ≡ o → Among (cons_option o (filter_map g ys)) z → (Among (filter_map g ys) z → (x : A) × (g x ≡ Some z)) → (x : A) × (g x ≡ Some z)
-      go None f r rest = rest r
-      go (Some w) f (zero, e) rest = (y, f ∙ e)
-      go (Some w) f (suc k, e) rest = rest (k, e)
+      go : (o : Option B) → g y ≡ o → Among (cons_option o (filter_map g ys)) z → (Among (filter_map g ys) z → (x : A) × (Among ys x × (g x ≡ Some z))) → (x : A) × (Among (y ∷ ys) x × (g x ≡ Some z))
+      go None f r rest = let v = rest r in (v.0, (later y ys v.0 v.1.0, v.1.1))
+      go (Some w) f (zero, e) rest = (y, ((zero, refl), f ∙ e))
+      go (Some w) f (suc k, e) rest = let v = rest (k, e) in (v.0, (later y ys v.0 v.1.0, v.1.1))
 
 -- ---- names
 
@@ -109,5 +109,5 @@ name_of name h = go (in_either element_names other_names name h)
         OfThrown w.0 (from_filter by_instructions knowns w.0 w.1.0).1 w.1.1
 
     go : Among element_names name ⊎ Among other_names name → NameOf name
-    go (inl g) = let w = from_filter_map basic_name elements name g in OfElement w.0 w.1
+    go (inl g) = let w = from_filter_map basic_name elements name g in OfElement w.0 w.1.1
     go (inr g) = other g
