@@ -1,39 +1,37 @@
 //! The tables of a small assembly, and of metadata that differ from it in a few bytes.
 
-use case_text::{Line, bytes_of, lines_of};
 use cil_rows::{NestedClassRow, TypeDefRow, find_row};
 use cil_tables::Tables;
 use plain_types::fault::Fault;
-use std::alloc::Global;
 use std::process::Abort;
-use std::test::Fail;
+use std::test::*;
 
 /// The metadata of a small assembly that `ilasm` made: `Constants` 1.0.0.0 with the class `Program` and its method
 /// `Main`, over `mscorlib` 4.3.1.0.
-const REGION: &str = "
-42 53 4A 42 01 00 01 00 00 00 00 00 0C 00 00 00
-76 34 2E 30 2E 33 30 33 31 39 00 00 00 00 05 00
-6C 00 00 00 94 00 00 00 23 7E 00 00 00 01 00 00
-48 00 00 00 23 53 74 72 69 6E 67 73 00 00 00 00
-48 01 00 00 00 00 00 00 23 55 53 00 48 01 00 00
-10 00 00 00 23 47 55 49 44 00 00 00 58 01 00 00
-08 00 00 00 23 42 6C 6F 62 00 00 00 00 00 00 00
-02 00 00 01 47 00 00 00 09 00 00 00 00 00 00 00
-00 00 00 00 01 00 00 00 01 00 00 00 02 00 00 00
-01 00 00 00 01 00 00 00 01 00 00 00 00 00 01 00
-01 00 00 00 00 00 06 00 2B 00 32 00 00 00 00 00
-19 00 00 00 00 00 01 00 01 00 81 01 00 00 39 00
-00 00 05 00 01 00 01 00 50 20 00 00 00 00 16 00
-41 00 01 00 01 00 00 00 00 00 01 00 00 00 00 00
-00 00 00 00 00 00 00 00 0F 00 00 00 04 00 03 00
-01 00 00 00 00 00 00 00 00 00 22 00 00 00 00 00
-00 43 6F 6E 73 74 61 6E 74 73 2E 64 6C 6C 00 43
-6F 6E 73 74 61 6E 74 73 00 3C 4D 6F 64 75 6C 65
-3E 00 6D 73 63 6F 72 6C 69 62 00 4F 62 6A 65 63
-74 00 53 79 73 74 65 6D 00 50 72 6F 67 72 61 6D
-00 4D 61 69 6E 00 00 00 8B DE 4C DE AE BE 4A 44
-87 5E D5 AF 53 00 3C 4D 00 03 00 00 08 00 00 00
-";
+const REGION: [u8; 352] = [
+    0x42, 0x53, 0x4A, 0x42, 0x01, 0x00, 0x01, 0x00, 0x00, 0x00, 0x00, 0x00, 0x0C, 0x00, 0x00, 0x00,
+    0x76, 0x34, 0x2E, 0x30, 0x2E, 0x33, 0x30, 0x33, 0x31, 0x39, 0x00, 0x00, 0x00, 0x00, 0x05, 0x00,
+    0x6C, 0x00, 0x00, 0x00, 0x94, 0x00, 0x00, 0x00, 0x23, 0x7E, 0x00, 0x00, 0x00, 0x01, 0x00, 0x00,
+    0x48, 0x00, 0x00, 0x00, 0x23, 0x53, 0x74, 0x72, 0x69, 0x6E, 0x67, 0x73, 0x00, 0x00, 0x00, 0x00,
+    0x48, 0x01, 0x00, 0x00, 0x00, 0x00, 0x00, 0x00, 0x23, 0x55, 0x53, 0x00, 0x48, 0x01, 0x00, 0x00,
+    0x10, 0x00, 0x00, 0x00, 0x23, 0x47, 0x55, 0x49, 0x44, 0x00, 0x00, 0x00, 0x58, 0x01, 0x00, 0x00,
+    0x08, 0x00, 0x00, 0x00, 0x23, 0x42, 0x6C, 0x6F, 0x62, 0x00, 0x00, 0x00, 0x00, 0x00, 0x00, 0x00,
+    0x02, 0x00, 0x00, 0x01, 0x47, 0x00, 0x00, 0x00, 0x09, 0x00, 0x00, 0x00, 0x00, 0x00, 0x00, 0x00,
+    0x00, 0x00, 0x00, 0x00, 0x01, 0x00, 0x00, 0x00, 0x01, 0x00, 0x00, 0x00, 0x02, 0x00, 0x00, 0x00,
+    0x01, 0x00, 0x00, 0x00, 0x01, 0x00, 0x00, 0x00, 0x01, 0x00, 0x00, 0x00, 0x00, 0x00, 0x01, 0x00,
+    0x01, 0x00, 0x00, 0x00, 0x00, 0x00, 0x06, 0x00, 0x2B, 0x00, 0x32, 0x00, 0x00, 0x00, 0x00, 0x00,
+    0x19, 0x00, 0x00, 0x00, 0x00, 0x00, 0x01, 0x00, 0x01, 0x00, 0x81, 0x01, 0x00, 0x00, 0x39, 0x00,
+    0x00, 0x00, 0x05, 0x00, 0x01, 0x00, 0x01, 0x00, 0x50, 0x20, 0x00, 0x00, 0x00, 0x00, 0x16, 0x00,
+    0x41, 0x00, 0x01, 0x00, 0x01, 0x00, 0x00, 0x00, 0x00, 0x00, 0x01, 0x00, 0x00, 0x00, 0x00, 0x00,
+    0x00, 0x00, 0x00, 0x00, 0x00, 0x00, 0x00, 0x00, 0x0F, 0x00, 0x00, 0x00, 0x04, 0x00, 0x03, 0x00,
+    0x01, 0x00, 0x00, 0x00, 0x00, 0x00, 0x00, 0x00, 0x00, 0x00, 0x22, 0x00, 0x00, 0x00, 0x00, 0x00,
+    0x00, 0x43, 0x6F, 0x6E, 0x73, 0x74, 0x61, 0x6E, 0x74, 0x73, 0x2E, 0x64, 0x6C, 0x6C, 0x00, 0x43,
+    0x6F, 0x6E, 0x73, 0x74, 0x61, 0x6E, 0x74, 0x73, 0x00, 0x3C, 0x4D, 0x6F, 0x64, 0x75, 0x6C, 0x65,
+    0x3E, 0x00, 0x6D, 0x73, 0x63, 0x6F, 0x72, 0x6C, 0x69, 0x62, 0x00, 0x4F, 0x62, 0x6A, 0x65, 0x63,
+    0x74, 0x00, 0x53, 0x79, 0x73, 0x74, 0x65, 0x6D, 0x00, 0x50, 0x72, 0x6F, 0x67, 0x72, 0x61, 0x6D,
+    0x00, 0x4D, 0x61, 0x69, 0x6E, 0x00, 0x00, 0x00, 0x8B, 0xDE, 0x4C, 0xDE, 0xAE, 0xBE, 0x4A, 0x44,
+    0x87, 0x5E, 0xD5, 0xAF, 0x53, 0x00, 0x3C, 0x4D, 0x00, 0x03, 0x00, 0x00, 0x08, 0x00, 0x00, 0x00,
+];
 
 fn is_text(tables: &Tables<'_>, i: u32, text: &str) -> bool {
     match tables.string(i) {
@@ -42,77 +40,37 @@ fn is_text(tables: &Tables<'_>, i: u32, text: &str) -> bool {
     }
 }
 
-/// Tables, and how many rows they have.
-const COUNTS: &str = "
-00 | 1
-01 | 1
-02 | 2
-04 | 0
-06 | 1
-20 | 1
-23 | 1
-40 | 0
-FF | 0
-";
-
-fn has_counts(rt: &(impl Abort + AllocGlobal), tables: &Tables<'_>) -> Result<(), Fail> {
-    let lines = lines_of(rt.alloc(), COUNTS, '|')?;
-    for line in lines.as_slice() {
-        let count = tables.rows(line.byte(0)?);
-        assert_eq!(rt; count, line.number(1)?, "in {}", line.text(0));
-    }
-    Ok(())
-}
-
-/// Rows by their tables and numbers: the nine columns, and the name in one of them. All numbers are in hex digits.
-const ROWS: &str = "
-02 | 2 | 181 39 0 5 1 1 0 0 0 | 1 | Program
-06 | 1 | 2050 0 16 41 1 1 0 0 0 | 3 | Main
-23 | 1 | 4 3 1 0 0 0 22 0 0 | 6 | mscorlib
-";
-
-fn columns_of(alloc: Global, text: &str) -> Result<Vec<u32>, Fail> {
-    let words = Line::of(alloc, text, ' ')?;
-    let mut columns = Vec::new(alloc);
-    for k in 0..9 {
-        columns.push(words.hex(k)?)?;
-    }
-    Ok(columns)
-}
-
-/// The columns of a row; none where the table has no such row.
-fn found(alloc: Global, tables: &Tables<'_>, table: u8, row: u32) -> Result<Vec<u32>, Fail> {
-    if row < 1 || row > tables.rows(table) {
-        return Ok(Vec::new(alloc));
-    }
-    Ok(Vec::from_slice(alloc, tables.row(table, row).columns.as_slice())?)
-}
-
-fn has_columns(rt: &(impl Abort + AllocGlobal), tables: &Tables<'_>) -> Result<(), Fail> {
-    let alloc = rt.alloc();
-    let lines = lines_of(alloc, ROWS, '|')?;
-    for line in lines.as_slice() {
-        let columns = found(alloc, tables, line.byte(0)?, line.hex(1)?)?;
-        let wanted = columns_of(alloc, line.text(2))?;
-        assert_eq!(rt; columns.as_slice(), wanted.as_slice());
-        let name = columns
-            .get(usize::from(line.byte(3)?))
-            .ok_or("there is such a column")?;
-        assert!(rt; is_text(tables, *name, line.text(4)));
-    }
-    Ok(())
-}
-
 fn has_rows(rt: &impl Abort, tables: &Tables<'_>) {
+    for (table, count) in [
+        (0x00, 1),
+        (0x01, 1),
+        (0x02, 2),
+        (0x04, 0),
+        (0x06, 1),
+        (0x20, 1),
+        (0x23, 1),
+        (0x40, 0),
+        (0xFF, 0),
+    ] {
+        assert_eq!(rt; tables.rows(table), count, "in {table}");
+    }
+    if tables.rows(0x02) == 2 && tables.rows(0x06) == 1 && tables.rows(0x23) == 1 {
+        let class = tables.row(0x02, 2);
+        assert_eq!(rt; class.columns, [0x181, 57, 0, 5, 1, 1, 0, 0, 0]);
+        assert!(rt; is_text(tables, class.columns[1], "Program"));
+        let method = tables.row(0x06, 1);
+        assert_eq!(rt; method.columns, [0x2050, 0, 0x16, 65, 1, 1, 0, 0, 0]);
+        assert!(rt; is_text(tables, method.columns[3], "Main"));
+        let library = tables.row(0x23, 1);
+        assert_eq!(rt; library.columns, [4, 3, 1, 0, 0, 0, 34, 0, 0]);
+        assert!(rt; is_text(tables, library.columns[6], "mscorlib"));
+    }
     let class: Option<TypeDefRow> = find_row(tables, 2);
     assert!(rt;
         class.is_some_and(|class| is_text(tables, class.name, "Program") && class.extends == 5)
     );
     let nested: Option<NestedClassRow> = find_row(tables, 1);
     assert!(rt; nested.is_none());
-}
-
-fn has_heaps(rt: &impl Abort, tables: &Tables<'_>) {
     assert!(rt; is_text(tables, 58, "rogram"));
     assert!(rt; is_text(tables, 0, ""));
     assert!(rt; tables.string(72).is_none());
@@ -122,32 +80,25 @@ fn has_heaps(rt: &impl Abort, tables: &Tables<'_>) {
 }
 
 #[test]
-fn a_small_assembly(rt: HostRuntime) -> Result<(), Fail> {
-    let region = bytes_of(rt.alloc(), REGION)?;
-    let tables = Tables::open(region.as_slice())
-        .ok()
-        .ok_or("no rule is broken")?;
-    has_counts(&rt, &tables)?;
-    has_columns(&rt, &tables)?;
-    has_rows(&rt, &tables);
-    has_heaps(&rt, &tables);
-    Ok(())
+fn a_small_assembly(rt: HostRuntime) {
+    match Tables::open(&REGION) {
+        Ok(tables) => has_rows(&rt, &tables),
+        Err(_) => assert!(rt; false),
+    }
 }
 
-/// The rule that a region breaks, with table, row and offset; rule 0 where it breaks none.
-type Told = (u8, u8, u32, u32);
-
-fn verdict(region: &[u8]) -> Told {
+/// The rule that the region breaks, with table, row and offset; rule 0 where it breaks none.
+fn verdict(region: &[u8]) -> (u8, u8, u32, u32) {
     if region.len() >= 0x1_0000_0000 {
         return (255, 0, 0, 0);
     }
     match Tables::open(region) {
         Ok(_) => (0, 0, 0, 0),
-        Err(fault) => told_of(fault),
+        Err(fault) => place_of(fault),
     }
 }
 
-fn told_of(fault: Fault) -> Told {
+fn place_of(fault: Fault) -> (u8, u8, u32, u32) {
     (
         fault.rule,
         fault.place.table,
@@ -156,135 +107,102 @@ fn told_of(fault: Fault) -> Told {
     )
 }
 
-/// The verdict on the first bytes of a region.
-fn verdict_of_front(region: &[u8], len: usize) -> Told {
-    match region.get(..len) {
-        Some(front) => verdict(front),
-        None => (255, 0, 0, 0),
-    }
-}
-
-/// What is told of a region that is cut behind so many bytes.
-fn cut(len: usize) -> Told {
-    match len {
-        0..32 => (8, 255, 0, 0),
-        32..256 => (9, 255, 0, 32),
-        256..328 => (9, 255, 0, 44),
-        328..344 => (9, 255, 0, 76),
-        _ => (9, 255, 0, 92),
-    }
-}
-
 #[test]
-fn each_prefix_breaks_the_first_rule_that_it_cuts(rt: HostRuntime) -> Result<(), Fail> {
-    let region = bytes_of(rt.alloc(), REGION)?;
-    assert!(rt; region.len() == 352);
+fn each_prefix_breaks_the_first_rule_that_it_cuts(rt: HostRuntime) {
     for n in 0..352 {
-        assert_eq!(rt; verdict_of_front(region.as_slice(), n), cut(n), "at {n}");
+        let want = match n {
+            0..32 => (8, 255, 0, 0),
+            32..256 => (9, 255, 0, 32),
+            256..328 => (9, 255, 0, 44),
+            328..344 => (9, 255, 0, 76),
+            _ => (9, 255, 0, 92),
+        };
+        assert_eq!(rt; verdict(&REGION[..n]), want, "at {n}");
     }
-    Ok(())
 }
 
-/// What is changed, where, into which two bytes, and what is told: rule, table, row and offset. The rule, the row and the numbers of
-/// bytes are in decimal digits, the table and the two bytes in hex digits.
-const CHANGES: &str = "
-a version text of odd length | 12 | 000D | 8 | FF | 0 | 0
-an endless version text | 14 | FFFC | 8 | FF | 0 | 0
-a second stream of one name | 73 | 007E | 9 | FF | 0 | 64
-a stream behind the region | 34 | FFFF | 9 | FF | 0 | 32
-a stream #- | 40 | 2D23 | 9 | FF | 0 | 0
-an unknown width | 114 | 0108 | 10 | FF | 0 | 108
-an unknown table | 116 | 014F | 10 | FF | 0 | 108
-a row too many | 136 | 0002 | 11 | FF | 0 | 256
-4,294,901,762 rows | 142 | FFFF | 11 | FF | 0 | 256
-a name behind its heap | 190 | 0048 | 12 | 02 | 2 | 0
-a shared end of a name | 190 | 003A | 0 | 00 | 0 | 0
-a name that isn't UTF-8 | 314 | FFFF | 12 | 02 | 2 | 0
-a name with a character of two bytes | 314 | A9C3 | 0 | 00 | 0 | 0
-a tag without table | 194 | 0007 | 12 | 02 | 2 | 0
-a row that isn't there | 194 | 0009 | 12 | 02 | 2 | 0
-a class that extends nothing | 194 | 0000 | 0 | 00 | 0 | 0
-a scope that is nothing | 166 | 0002 | 12 | 01 | 1 | 0
-a list that falls | 184 | 0002 | 12 | 02 | 2 | 0
-a list behind the last row | 198 | 0003 | 12 | 02 | 2 | 0
-a blob past its heap | 210 | 0004 | 12 | 06 | 1 | 0
-a blob behind its heap | 210 | 0008 | 12 | 06 | 1 | 0
-";
-
-fn told_by(line: &Line<'_>) -> Result<Told, Fail> {
-    let rule = line.text(3).parse::<u8>().ok().ok_or("a rule")?;
-    Ok((rule, line.byte(4)?, line.number(5)?, line.number(6)?))
-}
-
-/// The region with two bytes changed.
-fn changed(alloc: Global, at: u32, value: u32) -> Result<Vec<u8>, Fail> {
-    let mut region = bytes_of(alloc, REGION)?;
-    let (at, bytes) = (at as usize, value.to_le_bytes());
-    if at < region.len() && region.len() - at >= 2 {
-        region[at..at + 2].copy_from_slice(&bytes[..2]);
+fn changed(at: usize, value: u16) -> [u8; 352] {
+    let mut region = REGION;
+    if at < 351 {
+        region[at..at + 2].copy_from_slice(&value.to_le_bytes());
     }
-    Ok(region)
+    region
 }
 
 #[test]
-fn changed_regions(rt: HostRuntime) -> Result<(), Fail> {
-    let lines = lines_of(rt.alloc(), CHANGES, '|')?;
-    for line in lines.as_slice() {
-        let region = changed(rt.alloc(), line.number(1)?, line.hex(2)?)?;
-        let told = verdict(region.as_slice());
-        assert_eq!(rt; told, told_by(line)?, "{}", line.text(0));
+fn changed_regions(rt: HostRuntime) {
+    let changes = [
+        ("a version text of odd length", 12, 13, (8, 255, 0, 0)),
+        ("an endless version text", 14, 0xFFFC, (8, 255, 0, 0)),
+        ("a second stream of one name", 73, 0x007E, (9, 255, 0, 64)),
+        ("a stream behind the region", 34, 0xFFFF, (9, 255, 0, 32)),
+        ("a stream #-", 40, 0x2D23, (9, 255, 0, 0)),
+        ("an unknown width", 114, 0x0108, (10, 255, 0, 108)),
+        ("an unknown table", 116, 0x014F, (10, 255, 0, 108)),
+        ("a row too many", 136, 2, (11, 255, 0, 256)),
+        ("4,294,901,762 rows", 142, 0xFFFF, (11, 255, 0, 256)),
+        ("a name behind its heap", 190, 72, (12, 2, 2, 0)),
+        ("a shared end of a name", 190, 58, (0, 0, 0, 0)),
+        ("a name that isn't UTF-8", 314, 0xFFFF, (12, 2, 2, 0)),
+        (
+            "a name with a character of two bytes",
+            314,
+            0xA9C3,
+            (0, 0, 0, 0),
+        ),
+        ("a tag without table", 194, 7, (12, 2, 2, 0)),
+        ("a row that isn't there", 194, 9, (12, 2, 2, 0)),
+        ("a class that extends nothing", 194, 0, (0, 0, 0, 0)),
+        ("a scope that is nothing", 166, 2, (12, 1, 1, 0)),
+        ("a list that falls", 184, 2, (12, 2, 2, 0)),
+        ("a list behind the last row", 198, 3, (12, 2, 2, 0)),
+        ("a blob past its heap", 210, 4, (12, 6, 1, 0)),
+        ("a blob behind its heap", 210, 8, (12, 6, 1, 0)),
+    ];
+    for (name, at, value, want) in changes {
+        assert_eq!(rt; verdict(&changed(at, value)), want, "{name}");
     }
-    Ok(())
 }
 
-/// Metadata with as many streams as the text has letters, which are twenty, each named by its letter.
-fn streams(alloc: Global, letters: &str) -> Result<Vec<u8>, Fail> {
-    let mut region = bytes_of(alloc, STREAMS_ROOT)?;
-    for letter in letters.bytes() {
-        region.extend_from_slice(&[0, 0, 0, 0, 0, 0, 0, 0, letter, 0, 0, 0])?;
+/// Metadata with as many streams as the text has letters, each named by its letter.
+fn streams(letters: &[u8; 20]) -> [u8; 264] {
+    let mut region = [0; 264];
+    region[..4].copy_from_slice(b"BSJB");
+    region[12] = 4;
+    region[22] = 20;
+    for (k, letter) in letters.iter().enumerate() {
+        region[32 + 12 * k] = *letter;
     }
-    Ok(region)
+    region
 }
-
-/// The root of metadata with twenty streams.
-const STREAMS_ROOT: &str = "
-42 53 4A 42 00 00 00 00 00 00 00 00 04 00 00 00
-00 00 00 00 00 00 14 00
-";
-
-/// The letters of twenty streams, and the offset of what is told.
-const STREAMS: &str = "
-ABCDEFGHIJKLMNOPQRST | 0
-ABCDEFGHIJKLMNOPQFSS | 228
-TSRQPONMLKJIHGFEDCRT | 240
-";
 
 #[test]
-fn the_first_stream_with_an_earlier_name(rt: HostRuntime) -> Result<(), Fail> {
-    let lines = lines_of(rt.alloc(), STREAMS, '|')?;
-    for line in lines.as_slice() {
-        let region = streams(rt.alloc(), line.text(0))?;
-        let told = verdict(region.as_slice());
-        assert_eq!(rt; told, (9, 255, 0, line.number(1)?), "{}", line.text(0));
-    }
-    Ok(())
+fn the_first_stream_with_an_earlier_name(rt: HostRuntime) {
+    assert_eq!(rt; verdict(&streams(b"ABCDEFGHIJKLMNOPQRST")), (9, 255, 0, 0));
+    assert_eq!(rt;
+        verdict(&streams(b"ABCDEFGHIJKLMNOPQFSS")),
+        (9, 255, 0, 228)
+    );
+    assert_eq!(rt;
+        verdict(&streams(b"TSRQPONMLKJIHGFEDCRT")),
+        (9, 255, 0, 240)
+    );
 }
+
 /// Metadata of two Assembly rows that are zero, with a text and a blob of no bytes.
-const TWO_ASSEMBLIES: &str = "
-42 53 4A 42 01 00 01 00 00 00 00 00 04 00 00 00
-76 31 00 00 00 00 03 00 48 00 00 00 48 00 00 00
-23 7E 00 00 48 00 00 00 01 00 00 00 23 53 74 72
-69 6E 67 73 00 00 00 00 48 00 00 00 01 00 00 00
-23 42 6C 6F 62 00 00 00 00 00 00 00 02 00 00 01
-00 00 00 00 01 00 00 00 00 00 00 00 00 00 00 00
-02 00 00 00 00 00 00 00 00 00 00 00 00 00 00 00
-00 00 00 00 00 00 00 00 00 00 00 00 00 00 00 00
-00 00 00 00 00 00 00 00 00 00 00 00 00 00 00 00
-";
+const TWO_ASSEMBLIES: [u8; 144] = [
+    0x42, 0x53, 0x4A, 0x42, 0x01, 0x00, 0x01, 0x00, 0x00, 0x00, 0x00, 0x00, 0x04, 0x00, 0x00, 0x00,
+    0x76, 0x31, 0x00, 0x00, 0x00, 0x00, 0x03, 0x00, 0x48, 0x00, 0x00, 0x00, 0x48, 0x00, 0x00, 0x00,
+    0x23, 0x7E, 0x00, 0x00, 0x48, 0x00, 0x00, 0x00, 0x01, 0x00, 0x00, 0x00, 0x23, 0x53, 0x74, 0x72,
+    0x69, 0x6E, 0x67, 0x73, 0x00, 0x00, 0x00, 0x00, 0x48, 0x00, 0x00, 0x00, 0x01, 0x00, 0x00, 0x00,
+    0x23, 0x42, 0x6C, 0x6F, 0x62, 0x00, 0x00, 0x00, 0x00, 0x00, 0x00, 0x00, 0x02, 0x00, 0x00, 0x01,
+    0x00, 0x00, 0x00, 0x00, 0x01, 0x00, 0x00, 0x00, 0x00, 0x00, 0x00, 0x00, 0x00, 0x00, 0x00, 0x00,
+    0x02, 0x00, 0x00, 0x00, 0x00, 0x00, 0x00, 0x00, 0x00, 0x00, 0x00, 0x00, 0x00, 0x00, 0x00, 0x00,
+    0x00, 0x00, 0x00, 0x00, 0x00, 0x00, 0x00, 0x00, 0x00, 0x00, 0x00, 0x00, 0x00, 0x00, 0x00, 0x00,
+    0x00, 0x00, 0x00, 0x00, 0x00, 0x00, 0x00, 0x00, 0x00, 0x00, 0x00, 0x00, 0x00, 0x00, 0x00, 0x00,
+];
 
 #[test]
-fn two_assembly_rows(rt: HostRuntime) -> Result<(), Fail> {
-    let region = bytes_of(rt.alloc(), TWO_ASSEMBLIES)?;
-    assert_eq!(rt; verdict(region.as_slice()), (13, 255, 0, 0));
-    Ok(())
+fn two_assembly_rows(rt: HostRuntime) {
+    assert_eq!(rt; verdict(&TWO_ASSEMBLIES), (13, 255, 0, 0));
 }
