@@ -1,11 +1,13 @@
 //! Columns of an image's rows.
 
-ghost use Rattle.std.specs.Prelude.{◌≡◌, IfOk};
+ghost use Rattle.std.specs.Prelude.{◌≡◌, ◌++◌, IfOk, OnOk, map};
 ghost use Rattle.world_rows.specs.Tokens.{text_at, bytes_at, scope_of};
 ghost use Rattle.assemblies.specs.Chosen.{scope_to};
 ghost use Rattle.image_form.specs.Form.{scope_word};
 ghost use Rattle.kept_marks.specs.Masks.{choice_of_rows, masks_of};
 ghost use Rattle.msspot_write.specs.declared.parts.Column.TheVariants as column;
+ghost use Rattle.msspot_write.specs.Spelt.{numbers};
+ghost use Rattle.converted.specs.Images.{column_cut};
 ghost use Rattle.converted.specs.Cut.{two_bytes};
 
 use cil_tables::Tables;
@@ -33,12 +35,29 @@ pub fn number(number: u64) -> Column
     Column::Number(two_bytes(number))
 }
 
+/// Adds numbers.
+pub fn push_numbers(columns: &mut Vec<Column>, these: &[u32]) -> Result<(), NoMemory>
+    ensures { OnOk result (columns.new.items ≡ columns.old.items ++ map column_cut (numbers these.now)) }
+{
+    for of in these {
+        columns.push(number(u64::from(*of)))?;
+    }
+    Ok(())
+}
+
+/// A name.
+pub fn text_name(alloc: Global, text: &str) -> Result<Column, NoMemory>
+    ensures { IfOk result (λ c. c ≡ column.Name text.now) }
+{
+    let bytes = Vec::from_slice(alloc, text.as_bytes())?;
+    Ok(Column::Name(Items::from_vec(bytes)))
+}
+
 /// The name at an offset of `#Strings`, or none.
 pub fn name(alloc: Global, tables: &Tables<'_>, at: u32) -> Result<Column, NoMemory>
     ensures { IfOk result (λ c. c ≡ column.Name (text_at tables.now at)) }
 {
-    let bytes = Vec::from_slice(alloc, text(tables, at).as_bytes())?;
-    Ok(Column::Name(Items::from_vec(bytes)))
+    text_name(alloc, text(tables, at))
 }
 
 /// The blob at an offset of `#Blob`, or none.

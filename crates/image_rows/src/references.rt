@@ -1,16 +1,16 @@
-//! The references to types and the specifications of a file (ECMA-335 II.22.38, II.22.39).
+//! What a file refers to: assemblies, types and members, and its specifications (ECMA-335 II.22.5, II.22.38, II.22.25, II.22.39).
 
-ghost use Rattle.std.specs.Prelude.{◌≡◌, IfOk};
+ghost use Rattle.std.specs.Prelude.{◌≡◌, IfOk, true};
 ghost use Rattle.file_tables.specs.Metadata.{rows_of};
-ghost use Rattle.world_rows.specs.Tokens.{type_refs, type_specs};
-ghost use Rattle.image_rows.specs.Kept.{reference_part_of, spec_part_of, reference_rows, spec_rows};
+ghost use Rattle.world_rows.specs.Tokens.{assembly_refs, type_refs, type_specs};
+ghost use Rattle.image_rows.specs.Kept.{assembly_part_of, reference_part_of, spec_part_of, assembly_rows, reference_rows, spec_rows};
 ghost use Rattle.kept_marks.specs.Masks.{masks_of};
 
-use crate::columns::{blob, name, number, scope_word};
+use crate::columns::{blob, name, number, push_numbers, scope_word};
 use crate::table::{TableParts, kept_parts};
-use cil_rows::{TypeRefRow, TypeSpecRow, read_row};
+use cil_rows::{AssemblyRefRow, TypeRefRow, TypeSpecRow, read_row};
 use cil_tables::Tables;
-use file_tables::numbers::{TYPE_REF, TYPE_SPEC};
+use file_tables::numbers::{ASSEMBLY_REF, TYPE_REF, TYPE_SPEC};
 use image_signatures::spec_bytes;
 use kept_marks::FileChoice;
 use msspot_write::{Column, PartRow};
@@ -18,6 +18,41 @@ use plain_types::fault::NoMemory;
 use plain_types::list::Items;
 use row_numbers::Table;
 use std::alloc::Global;
+
+/// The references to assemblies of a file.
+#[derive(Drop)]
+struct Assemblies<'t, 'a> {
+    tables: &'t Tables<'a>,
+}
+
+impl<'t, 'a> TableParts for Assemblies<'t, 'a> {
+    ghost rows = { λ a. rows_of a.tables.now assembly_refs };
+
+    ghost belongs = { λ a row. true };
+
+    ghost part = { λ a. assembly_part_of a.tables.now };
+
+    fn belongs(&self, _n: u32) -> bool {
+        true
+    }
+
+    fn part(&self, alloc: Global, n: u32) -> Result<PartRow, NoMemory> {
+        let _few = self.tables.rows(ASSEMBLY_REF);
+        let row: AssemblyRefRow = read_row(self.tables, n + 1);
+        let version = [
+            row.major_version,
+            row.minor_version,
+            row.build_number,
+            row.revision_number,
+        ];
+        let mut columns = Vec::with_capacity(alloc, 5)?;
+        columns.push(name(alloc, self.tables, row.name)?)?;
+        push_numbers(&mut columns, &version)?;
+        Ok(PartRow {
+            columns: Items::from_vec(columns),
+        })
+    }
+}
 
 /// The references to types of a file.
 #[derive(Drop)]
@@ -29,7 +64,13 @@ struct References<'k, 't, 'a> {
 impl<'k, 't, 'a> TableParts for References<'k, 't, 'a> {
     ghost rows = { λ r. rows_of r.tables.now type_refs };
 
+    ghost belongs = { λ r row. true };
+
     ghost part = { λ r. reference_part_of (masks_of r.choice.now) r.tables.now };
+
+    fn belongs(&self, _n: u32) -> bool {
+        true
+    }
 
     fn part(&self, alloc: Global, n: u32) -> Result<PartRow, NoMemory> {
         let _few = self.tables.rows(TYPE_REF);
@@ -55,7 +96,13 @@ struct Specifications<'k, 't, 'a> {
 impl<'k, 't, 'a> TableParts for Specifications<'k, 't, 'a> {
     ghost rows = { λ s. rows_of s.tables.now type_specs };
 
+    ghost belongs = { λ s row. true };
+
     ghost part = { λ s. spec_part_of (masks_of s.choice.now) s.tables.now };
+
+    fn belongs(&self, _n: u32) -> bool {
+        true
+    }
 
     fn part(&self, alloc: Global, n: u32) -> Result<PartRow, NoMemory> {
         let _few = self.tables.rows(TYPE_SPEC);
@@ -68,6 +115,19 @@ impl<'k, 't, 'a> TableParts for Specifications<'k, 't, 'a> {
             columns: Items::from_vec(columns),
         })
     }
+}
+
+/// For each kept reference to an assembly (ECMA-335 II.22.5) its name and its version.
+pub fn assembly_parts(
+    alloc: Global,
+    choice: &FileChoice<'_>,
+    tables: &Tables<'_>,
+) -> Result<Items<PartRow>, NoMemory>
+    ensures { IfOk result (λ parts. parts ≡ assembly_rows (masks_of choice.now) tables.now) }
+{
+    let rows = Assemblies { tables };
+    let count = tables.rows(ASSEMBLY_REF);
+    kept_parts(alloc, choice, Table::AssemblyRef, &rows, count)
 }
 
 /// For each kept reference to a type (ECMA-335 II.22.38) its scope, namespace and name.
