@@ -10,13 +10,12 @@ use Rattle.std.proofs.lemmas.List.Folds.{list_any-append}
 use Rattle.std.proofs.Math.Seq.{take-append_seam, take-length, take-suc}
 use Rattle.machine.specs.Data.{Id, id_eq}
 use Rattle.alike.proofs.Members.{id_same}
-use Rattle.classes.specs.Classes.{Classes}
-use Rattle.classes.specs.Queries.{reaches, parents}
+use Rattle.classes.specs.Queries.{reaches}
 use Rattle.class_rules.proofs.Ways.{or_left, or_right, any_at, at_any}
 use Rattle.member_keys.specs.declared.keys.ClassId.{ClassId}
 use Rattle.member_keys.specs.Seen.{class_seen}
 use Rattle.class_reach.specs.Found.{among}
-use Rattle.class_reach.specs.Levels.{all_parents, AreReached}
+use Rattle.class_reach.specs.Levels.{all_nexts, AreReached}
 use Rattle.class_reach.proofs.FoundLaws.{id_here, id_turned, among_both}
 
 module _ (next : Id → List Id) where
@@ -78,43 +77,43 @@ module _ (next : Id → List Id) where
       (λ on. let r = any_at (λ c. reaches n next c d) (next a) on in reach_closed inside closed n r.1 d (closed a r.1 i (at_any (id_eq r.1) (next a) r.0 r.1 r.2 (id_here r.1))) r.3)
       (or_cases (id_eq a d) (list_any (λ c. reaches n next c d) (next a)) e)
 
-module _ (cs : Classes) where
+module _ (next : Id → List Id) where
   -- ---- what the found classes lead to
 
-  pub parents_both : (xs ys : List ClassId) → all_parents cs (xs ++ ys) ≡ all_parents cs xs ++ all_parents cs ys
-  parents_both [] ys = refl
-  parents_both (x ∷ xs) ys = ap (λ zs. parents cs (class_seen x) ++ zs) (parents_both xs ys) ∙ sym (append_assoc (parents cs (class_seen x)) (all_parents cs xs) (all_parents cs ys))
+  pub nexts_both : (xs ys : List ClassId) → all_nexts next (xs ++ ys) ≡ all_nexts next xs ++ all_nexts next ys
+  nexts_both [] ys = refl
+  nexts_both (x ∷ xs) ys = ap (λ zs. next (class_seen x) ++ zs) (nexts_both xs ys) ∙ sym (append_assoc (next (class_seen x)) (all_nexts next xs) (all_nexts next ys))
 
-  any_parent : (d c : Id) (xs : List ClassId) → among c xs ≡ true → list_any (id_eq d) (parents cs c) ≡ true → list_any (id_eq d) (all_parents cs xs) ≡ true
-  any_parent d c [] e f = absurd (cc e)
-  any_parent d c (x ∷ xs) e f =
-      list_any-append (id_eq d) (parents cs (class_seen x)) (all_parents cs xs)
+  any_next : (d c : Id) (xs : List ClassId) → among c xs ≡ true → list_any (id_eq d) (next c) ≡ true → list_any (id_eq d) (all_nexts next xs) ≡ true
+  any_next d c [] e f = absurd (cc e)
+  any_next d c (x ∷ xs) e f =
+      list_any-append (id_eq d) (next (class_seen x)) (all_nexts next xs)
       ∙ ⊎_elim
-      (λ here. or_left (list_any (id_eq d) (parents cs (class_seen x))) (list_any (id_eq d) (all_parents cs xs)) (subst (λ z. list_any (id_eq d) (parents cs z) ≡ true) (id_same c (class_seen x) here) f))
-      (λ on. or_right (list_any (id_eq d) (parents cs (class_seen x))) (list_any (id_eq d) (all_parents cs xs)) (any_parent d c xs on f))
+      (λ here. or_left (list_any (id_eq d) (next (class_seen x))) (list_any (id_eq d) (all_nexts next xs)) (subst (λ z. list_any (id_eq d) (next z) ≡ true) (id_same c (class_seen x) here) f))
+      (λ on. or_right (list_any (id_eq d) (next (class_seen x))) (list_any (id_eq d) (all_nexts next xs)) (any_next d c xs on f))
       (or_cases (id_eq c (class_seen x)) (among c xs) e)
 
-  whose_parent : (d : Id) (xs : List ClassId) → list_any (id_eq d) (all_parents cs xs) ≡ true → (c : Id) × (among c xs ≡ true) × (list_any (id_eq d) (parents cs c) ≡ true)
-  whose_parent d [] e = absurd (cc e)
-  whose_parent d (x ∷ xs) e =
+  whose_next : (d : Id) (xs : List ClassId) → list_any (id_eq d) (all_nexts next xs) ≡ true → (c : Id) × (among c xs ≡ true) × (list_any (id_eq d) (next c) ≡ true)
+  whose_next d [] e = absurd (cc e)
+  whose_next d (x ∷ xs) e =
       ⊎_elim
       (λ here. (class_seen x, or_left (id_eq (class_seen x) (class_seen x)) (among (class_seen x) xs) (id_here (class_seen x)), here))
-      (λ on. let r = whose_parent d xs on in (r.0, or_right (id_eq r.0 (class_seen x)) (among r.0 xs) r.1, r.2))
-      (or_cases (list_any (id_eq d) (parents cs (class_seen x))) (list_any (id_eq d) (all_parents cs xs)) (sym (list_any-append (id_eq d) (parents cs (class_seen x)) (all_parents cs xs)) ∙ e))
+      (λ on. let r = whose_next d xs on in (r.0, or_right (id_eq r.0 (class_seen x)) (among r.0 xs) r.1, r.2))
+      (or_cases (list_any (id_eq d) (next (class_seen x))) (list_any (id_eq d) (all_nexts next xs)) (sym (list_any-append (id_eq d) (next (class_seen x)) (all_nexts next xs)) ∙ e))
 
   -- those before a place, and those behind it
-  split : (d : Id) (start : ℕ) (xs : List ClassId) → list_any (id_eq d) (all_parents cs xs) ≡ (list_any (id_eq d) (all_parents cs (take start xs)) || list_any (id_eq d) (all_parents cs (drop start xs)))
+  split : (d : Id) (start : ℕ) (xs : List ClassId) → list_any (id_eq d) (all_nexts next xs) ≡ (list_any (id_eq d) (all_nexts next (take start xs)) || list_any (id_eq d) (all_nexts next (drop start xs)))
   split d start xs =
-      ap (λ zs. list_any (id_eq d) (all_parents cs zs)) (sym (take-append-drop start xs))
-      ∙ ap (list_any (id_eq d)) (parents_both (take start xs) (drop start xs))
-      ∙ list_any-append (id_eq d) (all_parents cs (take start xs)) (all_parents cs (drop start xs))
+      ap (λ zs. list_any (id_eq d) (all_nexts next zs)) (sym (take-append-drop start xs))
+      ∙ ap (list_any (id_eq d)) (nexts_both (take start xs) (drop start xs))
+      ∙ list_any-append (id_eq d) (all_nexts next (take start xs)) (all_nexts next (drop start xs))
 
   among_dropped : (d : Id) (start : ℕ) (xs : List ClassId) → among d (drop start xs) ≡ true → among d xs ≡ true
   among_dropped d start xs e =
       ap (among d) (sym (take-append-drop start xs)) ∙ among_both d (take start xs) (drop start xs) ∙ or_right (among d (take start xs)) (among d (drop start xs)) e
 
   module _ (from : Id) where
-    pub reached_first : (c : ClassId) → class_seen c ≡ from → AreReached cs from 0 0 (c ∷ [])
+    pub reached_first : (c : ClassId) → class_seen c ≡ from → AreReached next from 0 0 (c ∷ [])
     reached_first c e =
         record {
           reached = λ d. or-false (id_eq d (class_seen c)) ∙ id_turned d (class_seen c) ∙ ap (λ z. id_eq z d) e;
@@ -122,61 +121,61 @@ module _ (cs : Classes) where
           within = omega arith;
         }
 
-    pub reached_next : (steps start : ℕ) (items more all : List ClassId) → AreReached cs from steps start items → all ≡ items ++ more → ((d : Id) → among d all ≡ (among d items || list_any (id_eq d) (all_parents cs (drop start items)))) → AreReached cs from (suc steps) (length items) all
+    pub reached_next : (steps start : ℕ) (items more all : List ClassId) → AreReached next from steps start items → all ≡ items ++ more → ((d : Id) → among d all ≡ (among d items || list_any (id_eq d) (all_nexts next (drop start items)))) → AreReached next from (suc steps) (length items) all
     reached_next steps start items more all are whole has =
         record {
-          reached = λ d. both_ways (among d all) (reaches (suc steps) (parents cs) from d) (up d) (down d);
-          behind = λ d h. closed d (subst (λ xs. list_any (id_eq d) (all_parents cs xs) ≡ true) (ap (take (length items)) whole ∙ take-append_seam items more) h);
+          reached = λ d. both_ways (among d all) (reaches (suc steps) next from d) (up d) (down d);
+          behind = λ d h. closed d (subst (λ xs. list_any (id_eq d) (all_nexts next xs) ≡ true) (ap (take (length items)) whole ∙ take-append_seam items more) h);
           within = omega (arith, ap length whole, length-append items more);
         }
       where
         kept : (d : Id) → among d items ≡ true → among d all ≡ true
         kept d e = has d ∙ or_left (among d items) _ e
 
-        closed : (d : Id) → list_any (id_eq d) (all_parents cs items) ≡ true → among d all ≡ true
+        closed : (d : Id) → list_any (id_eq d) (all_nexts next items) ≡ true → among d all ≡ true
         closed d e =
             ⊎_elim
             (λ before. kept d (are.behind d before))
-            (λ behind. has d ∙ or_right (among d items) (list_any (id_eq d) (all_parents cs (drop start items))) behind)
-            (or_cases (list_any (id_eq d) (all_parents cs (take start items))) (list_any (id_eq d) (all_parents cs (drop start items))) (sym (split d start items) ∙ e))
+            (λ behind. has d ∙ or_right (among d items) (list_any (id_eq d) (all_nexts next (drop start items))) behind)
+            (or_cases (list_any (id_eq d) (all_nexts next (take start items))) (list_any (id_eq d) (all_nexts next (drop start items))) (sym (split d start items) ∙ e))
 
-        up : (d : Id) → among d all ≡ true → reaches (suc steps) (parents cs) from d ≡ true
+        up : (d : Id) → among d all ≡ true → reaches (suc steps) next from d ≡ true
         up d e =
             ⊎_elim
-            (λ before. reach_more (parents cs) steps from d (sym (are.reached d) ∙ before))
+            (λ before. reach_more next steps from d (sym (are.reached d) ∙ before))
             (λ behind.
-            let r = whose_parent d (drop start items) behind in
-            reach_then (parents cs) steps from r.0 d (sym (are.reached r.0) ∙ among_dropped r.0 start items r.1) r.2)
-            (or_cases (among d items) (list_any (id_eq d) (all_parents cs (drop start items))) (sym (has d) ∙ e))
+            let r = whose_next d (drop start items) behind in
+            reach_then next steps from r.0 d (sym (are.reached r.0) ∙ among_dropped r.0 start items r.1) r.2)
+            (or_cases (among d items) (list_any (id_eq d) (all_nexts next (drop start items))) (sym (has d) ∙ e))
 
-        down : (d : Id) → reaches (suc steps) (parents cs) from d ≡ true → among d all ≡ true
+        down : (d : Id) → reaches (suc steps) next from d ≡ true → among d all ≡ true
         down d e =
             ⊎_elim
             (λ before. kept d (are.reached d ∙ before))
-            (λ (c, e, f). closed d (any_parent d c items (are.reached c ∙ e) f))
-            (reach_last (parents cs) steps from d e)
+            (λ (c, e, f). closed d (any_next d c items (are.reached c ∙ e) f))
+            (reach_last next steps from d e)
 
     -- where each found class was looked at, no step more finds another one
-    pub reached_all : (steps most : ℕ) (items : List ClassId) → AreReached cs from steps (length items) items → steps ≤ most → (d : Id) → among d items ≡ reaches most (parents cs) from d
+    pub reached_all : (steps most : ℕ) (items : List ClassId) → AreReached next from steps (length items) items → steps ≤ most → (d : Id) → among d items ≡ reaches most next from d
     reached_all steps most items are low d =
-        both_ways (among d items) (reaches most (parents cs) from d)
-        (λ e. let same : (most - steps) + steps ≡ most = omega (arith, low) in subst (λ n. reaches n (parents cs) from d ≡ true) same (reach_most (parents cs) (most - steps) steps from d (sym (are.reached d) ∙ e)))
-        (λ e. reach_closed (parents cs) (λ c. among c items) closed most from d (are.reached from ∙ reach_self (parents cs) steps from from (id_here from)) e)
+        both_ways (among d items) (reaches most next from d)
+        (λ e. let same : (most - steps) + steps ≡ most = omega (arith, low) in subst (λ n. reaches n next from d ≡ true) same (reach_most next (most - steps) steps from d (sym (are.reached d) ∙ e)))
+        (λ e. reach_closed next (λ c. among c items) closed most from d (are.reached from ∙ reach_self next steps from from (id_here from)) e)
       where
-        closed : (c d : Id) → among c items ≡ true → list_any (id_eq d) (parents cs c) ≡ true → among d items ≡ true
-        closed c d e f = are.behind d (subst (λ xs. list_any (id_eq d) (all_parents cs xs) ≡ true) (sym (take-length items)) (any_parent d c items e f))
+        closed : (c d : Id) → among c items ≡ true → list_any (id_eq d) (next c) ≡ true → among d items ≡ true
+        closed c d e f = are.behind d (subst (λ xs. list_any (id_eq d) (all_nexts next xs) ≡ true) (sym (take-length items)) (any_next d c items e f))
 
   -- the classes from a place on, with one more
-  pub one_more_level : (xs : List ClassId) (start place : ℕ) (d : ClassId) → start ≤ place → place < length xs → all_parents cs (take (place + 1 - start) (drop start xs)) ≡ all_parents cs (take (place - start) (drop start xs)) ++ parents cs (class_seen (get_or xs place d))
+  pub one_more_level : (xs : List ClassId) (start place : ℕ) (d : ClassId) → start ≤ place → place < length xs → all_nexts next (take (place + 1 - start) (drop start xs)) ≡ all_nexts next (take (place - start) (drop start xs)) ++ next (class_seen (get_or xs place d))
   one_more_level xs start place d low inside =
       let more : place + 1 - start ≡ suc (place - start) = omega (arith, low) in
       let at : start + (place - start) ≡ place = omega (arith, low) in
       let few : place - start < length (drop start xs) = omega (arith, low, inside, length-drop start xs) in
-      ap (λ n. all_parents cs (take n (drop start xs))) more
-      ∙ ap (all_parents cs) (take-suc (drop start xs) (place - start) d few)
-      ∙ parents_both (take (place - start) (drop start xs)) (get_or (drop start xs) (place - start) d ∷ [])
-      ∙ ap (λ zs. all_parents cs (take (place - start) (drop start xs)) ++ zs) (append-nil (parents cs (class_seen (get_or (drop start xs) (place - start) d))))
-      ∙ ap (λ x. all_parents cs (take (place - start) (drop start xs)) ++ parents cs (class_seen x)) (get_or-drop start xs (place - start) d ∙ ap (λ n. get_or xs n d) at)
+      ap (λ n. all_nexts next (take n (drop start xs))) more
+      ∙ ap (all_nexts next) (take-suc (drop start xs) (place - start) d few)
+      ∙ nexts_both (take (place - start) (drop start xs)) (get_or (drop start xs) (place - start) d ∷ [])
+      ∙ ap (λ zs. all_nexts next (take (place - start) (drop start xs)) ++ zs) (append-nil (next (class_seen (get_or (drop start xs) (place - start) d))))
+      ∙ ap (λ x. all_nexts next (take (place - start) (drop start xs)) ++ next (class_seen x)) (get_or-drop start xs (place - start) d ∙ ap (λ n. get_or xs n d) at)
 
 pub first_front : (xs ys all : List ClassId) (c : ClassId) → all ≡ xs ++ ys → slice_get xs 0 ≡ Some c → slice_get all 0 ≡ Some c
 first_front [] ys all c e h = absurd (cc h)

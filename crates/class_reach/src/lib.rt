@@ -4,4 +4,4 @@
 mod found;
 mod reach;
 
-pub use reach::reached;
+pub use reach::{reached, reached_until};

@@ -1,2 +1,4 @@
+pub mod AddedLaws
+pub mod MadeLaws
 pub mod OwnLaws
 pub mod SlotLaws

@@ -1,2 +1,3 @@
+pub mod Added
 pub mod Own
 pub mod Slots

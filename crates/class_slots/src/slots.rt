@@ -81,7 +81,7 @@ fn fills<'a>(
 }
 
 /// The same of several classes and interfaces.
-fn fills_each<'a>(
+pub fn fills_each<'a>(
     alloc: Global,
     methods: &MemberIndex<'_, 'a>,
     class: ClassId,
@@ -113,7 +113,7 @@ fn is_filled<'a>(
 }
 
 /// Whether slots of a class need no bodies: of an interface, and of an abstract class.
-fn needs_none(table: &ClassTable<'_>, class: ClassId, row: &ClassRow<'_>) -> bool
+pub fn needs_none(table: &ClassTable<'_>, class: ClassId, row: &ClassRow<'_>) -> bool
     ensures { result ≡ (row.now.is_interface || (row.now.is_abstract && is_reference_class (classes_seen table.now) (class_seen class))) }
 {
     row.is_interface || (row.is_abstract && is_reference_class(table, class))

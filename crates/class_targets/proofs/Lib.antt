@@ -2,6 +2,5 @@ pub mod DownLaws
 pub mod RowLaws
 pub mod OwnLaws
 pub mod TargetLaws
-pub mod InheritLaws
 pub mod SlotLaws
 pub mod KeptLaws

@@ -1,19 +1,16 @@
--- The slots of a class, by those of its superclass: what stands in the way of looking at each class that a class reaches.
-use Rattle.std.proofs.Common.{◌≡◌, ℕ, zero, suc, ◌⊎◌, inl, inr, Bool, true, false, List, [], ◌∷◌, Option, Some, None, refl, sym, ap, ◌∙◌, subst}
-use Rattle.std.specs.Prelude.{◌&&◌, not, slice_get, unwrap_or}
+-- A test of all that a class reaches, and the chain of a class by that of its superclass.
+use Rattle.std.proofs.Common.{◌≡◌, ℕ, zero, suc, ◌⊎◌, inl, inr, Bool, true, List, [], ◌∷◌, Option, Some, None, refl, sym, ap, ◌∙◌, subst}
+use Rattle.std.specs.Prelude.{slice_get, unwrap_or}
 use Rattle.std.specs.Cmp.{both_ways}
 use Rattle.std.specs.List.{list_all, list_any}
 use Rattle.std.specs.Option.{option_map}
 use Rattle.std.proofs.lemmas.Bool.{and_parts, and_from, or_cases}
 use Rattle.machine.specs.Data.{Id, id_eq, ClassOf}
 use Rattle.machine_typed.proofs.Types.{id_same, type_here}
-use Rattle.classes.specs.Classes.{Classes, OwnMethod}
-use Rattle.classes.specs.Queries.{reaches, ends, listed, above, superclass_of, parents, chain_within, is_interface, is_or_implements, method_at, methods_of, own_virtual}
-use Rattle.class_rules.specs.Rules.{all_reached, has_body_at, is_slot, only_if, fills, is_filled}
-use Rattle.class_rules.proofs.Ways.{or_left, or_right, any_at, at_any, all_at, reach_up}
-use Rattle.class_rules.proofs.Slots.{first_parent}
-use Rattle.class_targets.specs.Bodied.{is_bodied}
-use Rattle.class_targets.proofs.InheritLaws.{inherited}
+use Rattle.classes.specs.Classes.{Classes}
+use Rattle.classes.specs.Queries.{reaches, ends, listed, above, superclass_of, chain_within}
+use Rattle.class_rules.specs.Rules.{all_reached}
+use Rattle.class_rules.proofs.Ways.{or_left, or_right, any_at, at_any, all_at}
 
 -- ---- a test of all that a class reaches is one of a list of what it reaches
 
@@ -35,7 +32,7 @@ module _ (next : Id → List Id) (test : Id → Bool) where
   all_from f [] h = refl
   all_from f (x ∷ xs) h = and_from (f x) (list_all f xs) (h 0 x refl) (all_from f xs (λ i y e. h (suc i) y e))
 
-  all_tested : (n : ℕ) (a : Id) → ((d : Id) → reaches n next a d ≡ true → test d ≡ true) → all_reached n next test a ≡ true
+  pub all_tested : (n : ℕ) (a : Id) → ((d : Id) → reaches n next a d ≡ true → test d ≡ true) → all_reached n next test a ≡ true
   all_tested zero a h = h a (here a)
   all_tested (suc n) a h =
       and_from (test a) (list_all (all_reached n next test) (next a)) (h a (or_left (id_eq a a) (list_any (λ c. reaches n next c a) (next a)) (here a)))
@@ -63,59 +60,8 @@ module _ (cs : Classes) where
           ∙ ap (λ xs. c ∷ xs) (rest d (and_parts (ends n (above cs) d) true on).0)
           ∙ sym (ap (λ o. c ∷ unwrap_or (option_map (chain_within (suc n) cs) o) []) s)
 
-  above_whole : (n : ℕ) (c s : Id) → superclass_of cs c ≡ Some s → ends n (above cs) c ≡ true → chain_within n cs c ≡ c ∷ chain_within n cs s
+  pub above_whole : (n : ℕ) (c s : Id) → superclass_of cs c ≡ Some s → ends n (above cs) c ≡ true → chain_within n cs c ≡ c ∷ chain_within n cs s
   above_whole zero c s e h = absurd (cc h)
   above_whole (suc n) c s e h =
       let on : list_all (ends n (above cs)) (listed (Some s)) ≡ true = sym (ap (λ o. list_all (ends n (above cs)) (listed o)) e) ∙ h in
       ap (λ o. c ∷ unwrap_or (option_map (chain_within n cs) o) []) e ∙ ap (λ xs. c ∷ xs) (chain_longer n s (and_parts (ends n (above cs) s) true on).0)
-
-  -- ---- a class and its superclass
-
-  module _ (c s : Id) (up : superclass_of cs c ≡ Some s) (ending : ends cs.size (above cs) c ≡ true) (reaching : ends cs.size (parents cs) c ≡ true) (object : is_interface cs c ≡ false) (own : (m x : OwnMethod) → own_virtual cs m c ≡ Some x → is_bodied cs x.id ≡ true) where
-    reaches_above : (d : Id) → is_or_implements cs s d ≡ true → is_or_implements cs c d ≡ true
-    reaches_above d e =
-        reach_up (parents cs) 1 cs.size cs.size c s d reaching
-        (or_right (id_eq c s) (list_any (λ z. reaches 0 (parents cs) z s) (parents cs c)) (at_any (λ z. reaches 0 (parents cs) z s) (parents cs c) 0 s (first_parent cs c s up) (type_here (ClassOf s))))
-        e
-
-    implements : (d : Id) → (is_or_implements cs s d && not (is_interface cs s)) ≡ true → (is_or_implements cs c d && not (is_interface cs c)) ≡ true
-    implements d e = and_from (is_or_implements cs c d) (not (is_interface cs c)) (reaches_above d (and_parts (is_or_implements cs s d) (not (is_interface cs s)) e).0) (ap not object)
-
-    -- the slots of a class or an interface that have bodies at the superclass have bodies here
-    pub fills_inherited : (d : Id) → ((i : ℕ) (m : OwnMethod) → slice_get (methods_of cs d) i ≡ Some m → (cs.method_owner m.id ≡ Some d) × (method_at cs m.id ≡ Some m)) → (is_interface cs d ≡ false → id_eq c d ≡ false) → fills cs s d ≡ true → fills cs c d ≡ true
-    fills_inherited d owned apart e = go (methods_of cs d) owned e
-      where
-        slot : (m : OwnMethod) (b : Bool) → (cs.method_owner m.id ≡ Some d) × (method_at cs m.id ≡ Some m) → only_if b (has_body_at cs s m) ≡ true → only_if b (has_body_at cs c m) ≡ true
-        slot m false w h = refl
-        slot m true w h = inherited cs c s d m (above_whole cs.size c s up ending) (own m) (implements d) w.0 w.1 apart h
-
-        go : (ms : List OwnMethod) → ((i : ℕ) (m : OwnMethod) → slice_get ms i ≡ Some m → (cs.method_owner m.id ≡ Some d) × (method_at cs m.id ≡ Some m)) → list_all (λ m. only_if (is_slot cs d m) (has_body_at cs s m)) ms ≡ true → list_all (λ m. only_if (is_slot cs d m) (has_body_at cs c m)) ms ≡ true
-        go [] w h = refl
-        go (m ∷ ms) w h =
-            let both = and_parts (only_if (is_slot cs d m) (has_body_at cs s m)) (list_all (λ x. only_if (is_slot cs d x) (has_body_at cs s x)) ms) h in
-            and_from (only_if (is_slot cs d m) (has_body_at cs c m)) (list_all (λ x. only_if (is_slot cs d x) (has_body_at cs c x)) ms) (slot m (is_slot cs d m) (w 0 m refl) both.0) (go ms (λ i x at. w (suc i) x at) both.1)
-
-    -- where all slots have bodies at the superclass, only the class itself counts, and what its own interfaces add
-    pub filled_told :
-        (xs : List Id)
-        → ((d : Id) → list_any (id_eq d) xs ≡ true → is_or_implements cs c d ≡ true)
-        → ((d : Id) → is_or_implements cs c d ≡ true → (id_eq c d ≡ true) ⊎ ((is_or_implements cs s d ≡ true) ⊎ (list_any (id_eq d) xs ≡ true)))
-        → ((d : Id) (i : ℕ) (m : OwnMethod) → slice_get (methods_of cs d) i ≡ Some m → (cs.method_owner m.id ≡ Some d) × (method_at cs m.id ≡ Some m))
-        → ((d : Id) → is_or_implements cs s d ≡ true → is_interface cs d ≡ false → id_eq c d ≡ false)
-        → is_filled cs s ≡ true
-        → is_filled cs c ≡ (fills cs c c && list_all (fills cs c) xs)
-    filled_told xs reached either owned apart filled =
-        both_ways (is_filled cs c) (fills cs c c && list_all (fills cs c) xs)
-        (λ e.
-        and_from (fills cs c c) (list_all (fills cs c) xs) (tested (parents cs) (fills cs c) cs.size c c e (itself cs.size))
-        (all_from (parents cs) (fills cs c) (fills cs c) xs (λ i x at. tested (parents cs) (fills cs c) cs.size c x e (reached x (at_any (id_eq x) xs i x at (type_here (ClassOf x)))))))
-        (λ e. let both = and_parts (fills cs c c) (list_all (fills cs c) xs) e in all_tested (parents cs) (fills cs c) cs.size c (λ d r. by both.0 both.1 d (either d r)))
-      where
-        itself : (n : ℕ) → reaches n (parents cs) c c ≡ true
-        itself zero = type_here (ClassOf c)
-        itself (suc n) = or_left (id_eq c c) (list_any (λ z. reaches n (parents cs) z c) (parents cs c)) (type_here (ClassOf c))
-
-        by : fills cs c c ≡ true → list_all (fills cs c) xs ≡ true → (d : Id) → (id_eq c d ≡ true) ⊎ ((is_or_implements cs s d ≡ true) ⊎ (list_any (id_eq d) xs ≡ true)) → fills cs c d ≡ true
-        by own_slots others d (inl same) = subst (λ z. fills cs c z ≡ true) (id_same c d same) own_slots
-        by own_slots others d (inr (inl above)) = fills_inherited d (owned d) (apart d above) (tested (parents cs) (fills cs s) cs.size s d filled above)
-        by own_slots others d (inr (inr among)) = let w = any_at (id_eq d) xs among in subst (λ z. fills cs c z ≡ true) (sym (id_same d w.1 w.3)) (all_at (fills cs c) xs w.0 w.1 others w.2)

@@ -40,6 +40,8 @@ const SLOTS: &str = "
 31 0: an abstract enum isn't passed over: 13: type | 0181 | 01000003 | A; field | 0606 | | value__ | 06 08; interface | 0200000D | 02000006
 -: an abstract enum: 13: type | 0181 | 01000003 | A; field | 0606 | | value__ | 06 08
 31 0: an abstract enum's abstract ToString: 13: type | 0181 | 01000003 | A; field | 0606 | | value__ | 06 08; method | 04C6 | | ToString | 20 00 0E
+31 0: a class in front of the one above that lacks the body: 13: type | 00100001 | 0200000E | B; type | 00100001 | 02000005 | A
+31 0: behind a class that has what the one above lacks: 14: type | 00100001 | 0200000E | B; method | 00C6 | | Turn | 20 00 08 | 0A 16 2A; type | 00100001 | 02000005 | A
 31 0: the first of two classes: 13: type | 00100001 | 02000005 | A; type | 00100001 | 02000005 | B
 31 0: before a method's code: 14: type | 00100001 | 01000001 | A; method | 0096 | | Early | 00 00 01 | 0A 26 2A; type | 00100001 | 02000005 | B
 ";

@@ -140,11 +140,11 @@ module _ (files : List FilePart) (stand : TypesStand files) where
 -- ---- the profile
 
 module _ (files : List FilePart) (kept : profile files ≡ None) where
-  types_kept : phase_fault (type_rules (world_of files)) files ≡ None
+  pub types_kept : phase_fault (type_rules (world_of files)) files ≡ None
   unfolding profile
   types_kept = each_kept (λ _ rules. phase_fault rules files) (type_rules (world_of files) ∷ member_rules (world_of files) ∷ []) 0 (type_rules (world_of files)) kept refl
 
-  members_kept : phase_fault (member_rules (world_of files)) files ≡ None
+  pub members_kept : phase_fault (member_rules (world_of files)) files ≡ None
   unfolding profile
   members_kept = each_kept (λ _ rules. phase_fault rules files) (type_rules (world_of files) ∷ member_rules (world_of files) ∷ []) 1 (member_rules (world_of files)) kept refl
 

@@ -1,1 +1,2 @@
+mod AddedLaws
 pub mod PhaseLaws

@@ -1,5 +1,5 @@
 -- The order of rule 31, a step at a time.
-use Rattle.std.proofs.Common.{◌≡◌, ℕ, ◌+◌, ◌<◌, Bool, List, [], ◌∷◌, Option, Some, None, refl, sym, ap, ◌∙◌, subst, arith, add-one}
+use Rattle.std.proofs.Common.{◌≡◌, ℕ, ◌+◌, ◌<◌, Bool, true, List, [], ◌∷◌, Option, Some, None, refl, sym, ap, ◌∙◌, subst, arith, add-one}
 use Rattle.std.specs.Prelude.{suc, slice_get, length}
 use Rattle.std.specs.Option.{option_map, option_map_or}
 use Rattle.plain_types.specs.declared.fault.Fault.{Fault}
@@ -44,6 +44,14 @@ module _ (files : List FilePart) (t : ClassTable) (table : IsTable files t) (fil
 
   pub no_class : found_row t (id_at file n) ≡ None → row_told files file n ≡ None
   no_class none = told_by ∙ ap (λ (o : Option Class). first_fault file type_defs (suc n) (of_class o (λ k. test 31 (slots_filled (classes_seen t) (id_at file n) k) ∷ []))) (row_nowhere t file n none)
+
+  -- of a class whose slots have bodies nothing is told
+  pub filled_row : ((k : Class) → class_row t (id_at file n) ≡ Some k → slots_filled (classes_seen t) (id_at file n) k ≡ true) → row_told files file n ≡ None
+  filled_row filled = told_by ∙ go (class_row t (id_at file n)) refl
+    where
+      go : (o : Option Class) → class_row t (id_at file n) ≡ o → first_fault file type_defs (suc n) (of_class o (λ k. test 31 (slots_filled (classes_seen t) (id_at file n) k) ∷ [])) ≡ None
+      go None is = refl
+      go (Some k) is = ap (λ b. first_fault file type_defs (suc n) (test 31 b ∷ [])) (filled k is)
 
   pub a_class : (r : ClassRow) (filled : Bool) (result : Option Fault) → found_row t (id_at file n) ≡ Some r → ((f : FileRows) → filled ≡ slots_filled (classes_seen t) (id_at file n) (row_seen file f r)) → result ≡ first_fault file type_defs (n + 1) (test 31 filled ∷ []) → result ≡ row_told files file n
   a_class r filled result row is e =

@@ -125,7 +125,7 @@ module _ (files : List FilePart) where
         let kept = row_kept (type_rules w) files in_types c.file r.file r.is_file 0 (record { table = type_defs; tests = type_tests w c.file r.file.metadata }) c.row r.row refl r.is_row in
         (r, subst (λ o. first_fault c.file type_defs (suc c.row) (of_class o (class_tests w r.file.metadata c r.row)) ≡ None) there kept)
 
-    extends : (c : Id) (k : Class) → cs.class c ≡ Some k → extends_well n cs c k ≡ true
+    pub extends : (c : Id) (k : Class) → cs.class c ≡ Some k → extends_well n cs c k ≡ true
     extends c k there =
         let t = class_kept c k there in
         (and_parts (is_found t.0.row k) (extends_well n cs c k) (tests_kept c.file type_defs (suc c.row) (class_tests w t.0.file.metadata c t.0.row k) 0 t.1)).1
@@ -135,7 +135,7 @@ module _ (files : List FilePart) where
         let t = class_kept c k there in
         (and_parts (value_well cs c k.kind) _ (tests_kept c.file type_defs (suc c.row) (class_tests w t.0.file.metadata c t.0.row k) 1 t.1)).0
 
-    implements : (c : Id) (k : Class) → cs.class c ≡ Some k → implements_well n cs k ≡ true
+    pub implements : (c : Id) (k : Class) → cs.class c ≡ Some k → implements_well n cs k ≡ true
     implements c k there =
         ap (λ (z : Class). implements_well n cs z) r.is
         ∙ (ap (list_all (may_be_implemented n cs)) (mapped (resolve size ps c.file) (λ row. coded_type r.file.metadata TypeDefOrRef (slice_index row 1)) (filter (λ row. slice_index row 0 == suc c.row) (rows_of r.file.metadata interface_impls)))
