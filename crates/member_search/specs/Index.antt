@@ -1,7 +1,7 @@
 -- What an index of members holds.
 use Rattle.std.specs.Prelude.{◌≡◌, ℕ, ◌<◌, ◌^◌, List, length, Some, slice_get}
 use Rattle.std.specs.List.{position}
-use Rattle.std.specs.BTreeMap.{get}
+use Rattle.std.specs.BTreeMap.{BTreeMap, get}
 use Rattle.member_keys.specs.declared.keys.MemberKey.{MemberKey}
 use Rattle.member_keys.specs.declared.keys.SignatureKey.{SignatureKey}
 use Rattle.member_keys.specs.Seen.{member_order}
@@ -14,7 +14,7 @@ use Rattle.member_search.specs.Shown.{key_shown, is_shown, members_in, first_in,
 
 pub record FindsOwn (sort : Sort) (f : FileRows) (c : ClassRow) (p : ClassPlaces) : Type 0 where
   pub first : p.first ≡ first_in sort c
-  pub finds : (wanted : MemberKey) (s : SignatureKey) → wanted.signature ≡ Some s → get member_order p.places wanted ≡ position (is_shown (key_shown wanted)) (own_members sort f c)
+  pub finds : (places : BTreeMap MemberKey ℕ) → p.places ≡ Some places → (wanted : MemberKey) (s : SignatureKey) → wanted.signature ≡ Some s → get member_order places wanted ≡ position (is_shown (key_shown wanted)) (own_members sort f c)
 
 pub record FindsAll (sort : Sort) (f : FileRows) (ps : List ClassPlaces) : Type 0 where
   pub count : length ps ≡ length f.classes.items

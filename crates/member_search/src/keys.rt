@@ -59,7 +59,7 @@ pub fn method_key<'a>(alloc: Global, method: &MethodRow<'a>) -> Result<MemberKey
 }
 
 /// How many members a file has.
-fn count_members(file: &FileRows<'_>, sort: Sort) -> usize
+pub fn count_members(file: &FileRows<'_>, sort: Sort) -> usize
     ensures { result ≡ length (members_in sort file.now) }
 {
     match sort {

@@ -3,6 +3,7 @@
 
 mod index;
 mod keys;
+mod scan;
 mod sort;
 mod up;
 
