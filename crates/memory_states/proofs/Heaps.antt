@@ -6,7 +6,7 @@ use Rattle.plain_types.specs.declared.elem.Elem.{Elem}
 use Rattle.plain_types.specs.declared.elem.Elem.TheVariants as elem
 use Rattle.board_types.specs.declared.board.TypeAt.{TypeAt}
 use Rattle.board_types.specs.declared.board.BoardType.{BoardType}
-use Rattle.board_types.specs.declared.board.TheConstants.{NO_ROW}
+use Rattle.board_ids.specs.Ids.{is_no_row}
 use Rattle.board_types.specs.declared.value.Shape.{Shape}
 use Rattle.machine.specs.Data.{Id, CliType, Basic, EnumOf, Cell, Refers, cell_of, elem_cell, element_bytes, thing_size, end_of, thing_at, Thing, Instance, Text, Elements, Boxed, StaticCell, Slot, Nothing, Caught, Throwing, Leaving, Frame, State}
 use Rattle.machine.specs.Program.{Program, Method}
@@ -36,19 +36,19 @@ number_held e of false = refl
 plain_held : (e : Elem) (of : TypeAt) → cell_of (plain_type e of) ≡ elem_held e
 plain_held elem.Class of = refl
 plain_held elem.Value of = refl
-plain_held elem.Void of = number_held elem.Void of (of.row == NO_ROW)
-plain_held elem.Bool of = number_held elem.Bool of (of.row == NO_ROW)
-plain_held elem.Char of = number_held elem.Char of (of.row == NO_ROW)
-plain_held elem.I1 of = number_held elem.I1 of (of.row == NO_ROW)
-plain_held elem.U1 of = number_held elem.U1 of (of.row == NO_ROW)
-plain_held elem.I2 of = number_held elem.I2 of (of.row == NO_ROW)
-plain_held elem.U2 of = number_held elem.U2 of (of.row == NO_ROW)
-plain_held elem.I4 of = number_held elem.I4 of (of.row == NO_ROW)
-plain_held elem.U4 of = number_held elem.U4 of (of.row == NO_ROW)
-plain_held elem.I8 of = number_held elem.I8 of (of.row == NO_ROW)
-plain_held elem.U8 of = number_held elem.U8 of (of.row == NO_ROW)
-plain_held elem.String of = number_held elem.String of (of.row == NO_ROW)
-plain_held elem.Object of = number_held elem.Object of (of.row == NO_ROW)
+plain_held elem.Void of = number_held elem.Void of (is_no_row of)
+plain_held elem.Bool of = number_held elem.Bool of (is_no_row of)
+plain_held elem.Char of = number_held elem.Char of (is_no_row of)
+plain_held elem.I1 of = number_held elem.I1 of (is_no_row of)
+plain_held elem.U1 of = number_held elem.U1 of (is_no_row of)
+plain_held elem.I2 of = number_held elem.I2 of (is_no_row of)
+plain_held elem.U2 of = number_held elem.U2 of (is_no_row of)
+plain_held elem.I4 of = number_held elem.I4 of (is_no_row of)
+plain_held elem.U4 of = number_held elem.U4 of (is_no_row of)
+plain_held elem.I8 of = number_held elem.I8 of (is_no_row of)
+plain_held elem.U8 of = number_held elem.U8 of (is_no_row of)
+plain_held elem.String of = number_held elem.String of (is_no_row of)
+plain_held elem.Object of = number_held elem.Object of (is_no_row of)
 
 pub type_is_held : (of : BoardType) → type_held of ≡ cell_of (cli_type of)
 type_is_held of = by of.ranks

@@ -5,12 +5,11 @@ use Rattle.plain_types.specs.declared.elem.Elem.{Elem}
 use Rattle.plain_types.specs.declared.elem.Elem.TheVariants as elem
 use Rattle.board_types.specs.declared.board.TypeAt.{TypeAt}
 use Rattle.board_types.specs.declared.board.BoardType.{BoardType}
-use Rattle.board_types.specs.declared.board.TheConstants.{NO_ROW}
 use Rattle.machine.specs.Data.{CliType, Basic, EnumOf, ClassOf, ValueOf, ArrayOf, Cell, Bits, Refers, cell_of, type_eq}
 use Rattle.machine_typed.specs.Typing.{is_refers}
 use Rattle.classes.specs.Classes.{Classes}
 use Rattle.classes.specs.Queries.{array, class_of, elements_by, fits, is_object, some_eq}
-use Rattle.board_ids.specs.Ids.{cli_type, id_of, in_brackets, plain_type}
+use Rattle.board_ids.specs.Ids.{cli_type, id_of, in_brackets, is_no_row, plain_type}
 use Rattle.ecma_types.specs.declared.id.TypeId.{TypeId}
 use Rattle.place_types.specs.Types.{base_type, number_by}
 use Rattle.place_types.specs.Types.{id_of as world_id}
@@ -33,19 +32,19 @@ plain_flat e of = by e
     by : (e : Elem) → flat (plain_type e of) ≡ true
     by elem.Class = refl
     by elem.Value = refl
-    by elem.Void = number elem.Void (of.row == NO_ROW)
-    by elem.Bool = number elem.Bool (of.row == NO_ROW)
-    by elem.Char = number elem.Char (of.row == NO_ROW)
-    by elem.I1 = number elem.I1 (of.row == NO_ROW)
-    by elem.U1 = number elem.U1 (of.row == NO_ROW)
-    by elem.I2 = number elem.I2 (of.row == NO_ROW)
-    by elem.U2 = number elem.U2 (of.row == NO_ROW)
-    by elem.I4 = number elem.I4 (of.row == NO_ROW)
-    by elem.U4 = number elem.U4 (of.row == NO_ROW)
-    by elem.I8 = number elem.I8 (of.row == NO_ROW)
-    by elem.U8 = number elem.U8 (of.row == NO_ROW)
-    by elem.String = number elem.String (of.row == NO_ROW)
-    by elem.Object = number elem.Object (of.row == NO_ROW)
+    by elem.Void = number elem.Void (is_no_row of)
+    by elem.Bool = number elem.Bool (is_no_row of)
+    by elem.Char = number elem.Char (is_no_row of)
+    by elem.I1 = number elem.I1 (is_no_row of)
+    by elem.U1 = number elem.U1 (is_no_row of)
+    by elem.I2 = number elem.I2 (is_no_row of)
+    by elem.U2 = number elem.U2 (is_no_row of)
+    by elem.I4 = number elem.I4 (is_no_row of)
+    by elem.U4 = number elem.U4 (is_no_row of)
+    by elem.I8 = number elem.I8 (is_no_row of)
+    by elem.U8 = number elem.U8 (is_no_row of)
+    by elem.String = number elem.String (is_no_row of)
+    by elem.Object = number elem.Object (is_no_row of)
 
 -- what a place holds is told by the element alone
 pub cell_is : (e : Elem) (t : TypeId) (of : TypeAt) → cell_of (base_type e t) ≡ cell_of (plain_type e of)
@@ -62,19 +61,19 @@ cell_is e t of = by e
     by : (e : Elem) → cell_of (base_type e t) ≡ cell_of (plain_type e of)
     by elem.Class = refl
     by elem.Value = refl
-    by elem.Void = sym (enum elem.Void (of.row == NO_ROW))
-    by elem.String = sym (enum elem.String (of.row == NO_ROW))
-    by elem.Object = sym (enum elem.Object (of.row == NO_ROW))
-    by elem.Bool = number elem.Bool (nat_eq t.row 0) (of.row == NO_ROW)
-    by elem.Char = number elem.Char (nat_eq t.row 0) (of.row == NO_ROW)
-    by elem.I1 = number elem.I1 (nat_eq t.row 0) (of.row == NO_ROW)
-    by elem.U1 = number elem.U1 (nat_eq t.row 0) (of.row == NO_ROW)
-    by elem.I2 = number elem.I2 (nat_eq t.row 0) (of.row == NO_ROW)
-    by elem.U2 = number elem.U2 (nat_eq t.row 0) (of.row == NO_ROW)
-    by elem.I4 = number elem.I4 (nat_eq t.row 0) (of.row == NO_ROW)
-    by elem.U4 = number elem.U4 (nat_eq t.row 0) (of.row == NO_ROW)
-    by elem.I8 = number elem.I8 (nat_eq t.row 0) (of.row == NO_ROW)
-    by elem.U8 = number elem.U8 (nat_eq t.row 0) (of.row == NO_ROW)
+    by elem.Void = sym (enum elem.Void (is_no_row of))
+    by elem.String = sym (enum elem.String (is_no_row of))
+    by elem.Object = sym (enum elem.Object (is_no_row of))
+    by elem.Bool = number elem.Bool (nat_eq t.row 0) (is_no_row of)
+    by elem.Char = number elem.Char (nat_eq t.row 0) (is_no_row of)
+    by elem.I1 = number elem.I1 (nat_eq t.row 0) (is_no_row of)
+    by elem.U1 = number elem.U1 (nat_eq t.row 0) (is_no_row of)
+    by elem.I2 = number elem.I2 (nat_eq t.row 0) (is_no_row of)
+    by elem.U2 = number elem.U2 (nat_eq t.row 0) (is_no_row of)
+    by elem.I4 = number elem.I4 (nat_eq t.row 0) (is_no_row of)
+    by elem.U4 = number elem.U4 (nat_eq t.row 0) (is_no_row of)
+    by elem.I8 = number elem.I8 (nat_eq t.row 0) (is_no_row of)
+    by elem.U8 = number elem.U8 (nat_eq t.row 0) (is_no_row of)
 
 no_array : (a x : CliType) → flat a ≡ true → type_eq a (ArrayOf x) ≡ false
 no_array (Basic e) x h = refl

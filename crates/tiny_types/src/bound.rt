@@ -75,8 +75,8 @@ pub fn bind_types<'t, 'a>(
 }
 
 impl<'t, 'a> BoundTypes<'t, 'a> {
-    /// What the set's images say of types and members.
-    pub(crate) fn table(&self) -> &'t ClassTable<'a>
+    /// What the set's images say of types and members, in rows with numbers of 16 bits.
+    pub fn table(&self) -> &'t ClassTable<'a>
         ensures table { result.now ≡ self.now }
         ensures small { IsSmall result.now }
     {

@@ -14,7 +14,8 @@ ghost use Rattle.class_order.specs.Types.{base_seen};
 
 use crate::bound::BoundTypes;
 use crate::ids::class_id;
-use board_types::board::{BoardType, NO_ROW};
+use board_ids::is_no_row;
+use board_types::board::BoardType;
 use class_order::{BaseType, is_same};
 use ecma_types::id::TypeId;
 use ecma_types::stack::PlaceType;
@@ -31,7 +32,7 @@ fn base_of(of: BoardType) -> BaseType
     match of.elem {
         Elem::Class => BaseType::ClassOf(class_id(of.of)),
         Elem::Value => BaseType::ValueOf(class_id(of.of)),
-        elem if of.of.row == NO_ROW => BaseType::Basic(elem),
+        elem if is_no_row(of.of) => BaseType::Basic(elem),
         elem => BaseType::EnumOf(elem, class_id(of.of)),
     }
 }
@@ -46,6 +47,13 @@ fn class_of(types: &BoundTypes<'_, '_>, of: BaseType) -> Option<ClassId>
             Some(class)
         }
     }
+}
+
+/// The class of objects of the type that stands inside the brackets; `None` where the base library lacks it.
+pub fn class_of_type(types: &BoundTypes<'_, '_>, of: BoardType) -> Option<ClassId>
+    ensures { option_map class_seen result ≡ class_of (classes_seen types.now) (plain_type of.elem of.of) }
+{
+    class_of(types, base_of(of))
 }
 
 /// Whether both are there and the same.

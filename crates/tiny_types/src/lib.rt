@@ -16,5 +16,5 @@ mod up;
 pub use bodies::target;
 pub use bound::{BoundTypes, bind_types};
 pub use calls::{field_count, sub};
-pub use fits::cast;
+pub use fits::{cast, class_of_type};
 pub use found::{FoundTarget, FoundTargets, find_target, no_targets};
