@@ -1,7 +1,7 @@
 //! Which class is below which, which types fit, and which bodies calls find (ECMA-335 I.8.7, I.12.2.1, II.10.3, II.12.2), a line a
 //! question.
 
-use crate::text::{number, part};
+use crate::text::{elem_of, number, part, yes_or_no};
 use board_types::board::{BoardType, NO_ROW, TypeAt};
 use class_table::{Body, ClassRow, ClassTable, FieldKind, FieldRow, FileRows, MethodRow, TypeKind};
 use member_keys::{ClassId, SignatureKey};
@@ -28,17 +28,6 @@ Plain | 0 | 5 | - | - | 0 | n More
 
 fn class(row: u32) -> ClassId {
     ClassId { file: 0, row }
-}
-
-fn elem_of(text: &str) -> Elem {
-    match text {
-        "O" => Elem::Object,
-        "S" => Elem::String,
-        "I1" => Elem::I1,
-        "I4" => Elem::I4,
-        "U4" => Elem::U4,
-        _ => Elem::Void,
-    }
 }
 
 fn kind_of(text: &str) -> TypeKind {
@@ -186,13 +175,6 @@ fn type_of(text: &str) -> Result<BoardType, Fail> {
             }
         },
     })
-}
-
-fn yes_or_no(answer: bool) -> &'static str {
-    match answer {
-        true => "yes",
-        false => "no",
-    }
 }
 
 /// Questions, and what is answered.

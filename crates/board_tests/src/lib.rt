@@ -1,6 +1,8 @@
-//! Tests of the board's parts: operators, memory, exceptions and dispatch.
+//! Tests of the board's parts: operators, memory, exceptions, dispatch and the answers of a bound set.
 #![tactic(auto)]
 
+#[cfg(test)]
+mod bound;
 #[cfg(test)]
 mod dispatch;
 #[cfg(test)]

@@ -1,5 +1,6 @@
 //! Cases that are written as text: a line a case.
 
+use plain_types::elem::Elem;
 use std::test::Fail;
 
 /// The number of decimal digits; 0 where there are none.
@@ -17,5 +18,25 @@ pub fn part(text: &str, mark: char, n: usize) -> &str {
     match text.split(mark).nth(n) {
         Some(part) => part.trim(),
         None => "",
+    }
+}
+
+/// The element of a short name; `Void` of another text.
+pub fn elem_of(text: &str) -> Elem {
+    match text {
+        "O" => Elem::Object,
+        "S" => Elem::String,
+        "I1" => Elem::I1,
+        "I4" => Elem::I4,
+        "U4" => Elem::U4,
+        _ => Elem::Void,
+    }
+}
+
+/// An answer in words.
+pub fn yes_or_no(answer: bool) -> &'static str {
+    match answer {
+        true => "yes",
+        false => "no",
     }
 }

@@ -16,12 +16,13 @@ use Rattle.machine.specs.Numbers.{int_meant, long_meant}
 use Rattle.machine.specs.Throw.{on_some, raise}
 use Rattle.machine.specs.Rows.{on_thing}
 use Rattle.machine.specs.Natives.{on_enum, number_text, new_text, enum_to_string}
-use Rattle.tiny_native.specs.Types.{is_no_row, plain_type, ranked, cli_type, is_enum_type}
+use Rattle.board_ids.specs.Ids.{is_no_row, plain_type, in_brackets, cli_type}
+use Rattle.tiny_native.specs.Types.{is_enum_type}
 use Rattle.tiny_native.specs.Seen.{kind_of}
 use Rattle.tiny_native.specs.Copies.{Lacks}
 use Rattle.tiny_native.proofs.TypeSame.{either, plain_view}
 
-pub enum_ranked : (n : ℕ) (t : CliType) → (n ≡ 0 → ⊥) → is_enum_type (ranked n t) ≡ false
+pub enum_ranked : (n : ℕ) (t : CliType) → (n ≡ 0 → ⊥) → is_enum_type (in_brackets n t) ≡ false
 enum_ranked zero t h = absurd (h refl)
 enum_ranked (suc n) t h = refl
 
@@ -40,7 +41,7 @@ plain_enum e a nc nv = ⊎_elim
 
 -- a type without brackets
 pub flat_type : (t : BoardType) → t.ranks ≡ 0 → cli_type t ≡ plain_type t.elem t.of
-flat_type t e = ap (λ n. ranked n (plain_type t.elem t.of)) e
+flat_type t e = ap (λ n. in_brackets n (plain_type t.elem t.of)) e
 
 pub enum_box : (type : CliType) (value : Value) (go : CliType → Value → Option State) → is_enum_type type ≡ true → on_enum (Boxed type value) go ≡ go type value
 enum_box (EnumOf e c) value go h = refl

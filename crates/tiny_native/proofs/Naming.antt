@@ -12,7 +12,7 @@ use Rattle.machine.specs.Throw.{on_some, raise}
 use Rattle.machine.specs.Natives.{name_of, new_text, object_to_string}
 use Rattle.tiny_ops.specs.Operators.{Leads, stack_value}
 use Rattle.tiny_ram.specs.Things.{Entry}
-use Rattle.tiny_native.specs.Types.{cli_type}
+use Rattle.board_ids.specs.Ids.{cli_type}
 use Rattle.tiny_native.specs.Seen.{kind_of, Holds}
 use Rattle.tiny_native.specs.Told.{bracketed}
 

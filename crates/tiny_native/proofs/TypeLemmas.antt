@@ -13,7 +13,7 @@ use Rattle.cil_opcodes.specs.declared.shape.IntegerType.TheVariants.{U2}
 use Rattle.machine.specs.Data.{Bits}
 use Rattle.ram_words.specs.Elements.{elem_held, type_held}
 use Rattle.tiny_ram.specs.Things.{Packed, Alone, Cells, packed_by, layout_of}
-use Rattle.tiny_native.specs.Types.{id_of, is_no_row, plain_type, ranked, cli_type}
+use Rattle.board_ids.specs.Ids.{id_of, is_no_row, plain_type, in_brackets, cli_type}
 
 either_cell : (e : Elem) (of : TypeAt) (b : Bool) → cell_of (if b then Basic e else EnumOf e (id_of of)) ≡ elem_cell e
 either_cell e of true = refl
@@ -36,7 +36,7 @@ plain_cell elem.U8 of = either_cell elem.U8 of (is_no_row of)
 plain_cell elem.String of = either_cell elem.String of (is_no_row of)
 plain_cell elem.Object of = either_cell elem.Object of (is_no_row of)
 
-ranked_cell : (n : ℕ) (t : CliType) (held : Option Cell) → cell_of t ≡ held → cell_of (ranked n t) ≡ (if n == 0 then held else Some Refers)
+ranked_cell : (n : ℕ) (t : CliType) (held : Option Cell) → cell_of t ≡ held → cell_of (in_brackets n t) ≡ (if n == 0 then held else Some Refers)
 ranked_cell zero t held e = e
 ranked_cell (suc n) t held e = sym (ap (λ (b : Bool). if b then held else Some Refers) (ne_eqb (suc n) 0 (λ z. omega (arith, z))))
 

@@ -9,7 +9,8 @@ use Rattle.board_types.specs.declared.board.BoardType.{BoardType}
 use Rattle.board_types.specs.declared.board.TheConstants.{NO_ROW}
 use Rattle.machine.specs.Data.{Id, id_eq, CliType, Basic, EnumOf, ClassOf, ValueOf, ArrayOf, elem_number, type_eq}
 use Rattle.ram_words.specs.Cells.{elem_named}
-use Rattle.tiny_native.specs.Types.{id_of, is_no_row, plain_type, ranked, cli_type, same_board_type}
+use Rattle.board_ids.specs.Ids.{id_of, is_no_row, plain_type, in_brackets, cli_type}
+use Rattle.tiny_native.specs.Types.{same_board_type}
 
 and_left : (a b : Bool) → (a && b) ≡ true → a ≡ true
 and_left true b e = refl
@@ -169,11 +170,11 @@ plain_no_array e a = ⊎_elim
     l)
     (plain_view e)
 
-ranked_back : (m n : ℕ) (x y : CliType) → is_array x ≡ false → is_array y ≡ false → type_eq (ranked m x) (ranked n y) ≡ true → (m ≡ n) × (type_eq x y ≡ true)
+ranked_back : (m n : ℕ) (x y : CliType) → is_array x ≡ false → is_array y ≡ false → type_eq (in_brackets m x) (in_brackets n y) ≡ true → (m ≡ n) × (type_eq x y ≡ true)
 ranked_back zero zero x y a b h = (refl, h)
 ranked_back (suc m) (suc n) x y a b h = let r : (m ≡ n) × (type_eq x y ≡ true) = ranked_back m n x y a b h in (ap suc r.0, r.1)
-ranked_back zero (suc n) x y a b h = absurd (plain_array x (ranked n y) a h)
-ranked_back (suc m) zero x y a b h = absurd (array_plain y (ranked m x) b h)
+ranked_back zero (suc n) x y a b h = absurd (plain_array x (in_brackets n y) a h)
+ranked_back (suc m) zero x y a b h = absurd (array_plain y (in_brackets m x) b h)
 
 type_parts : (a b : BoardType) → a.ranks ≡ b.ranks → a.elem ≡ b.elem → a.of ≡ b.of → a ≡ b
 type_parts a b p q r =

@@ -18,7 +18,7 @@ use Rattle.tiny_ram.specs.Memory.{Memory, IsEntry, put_in}
 use Rattle.tiny_ram.specs.Region.{Keeps}
 use Rattle.tiny_ram.specs.declared.memory.Ram.{Ram}
 use Rattle.tiny_native.specs.Seen.{Scene, Named, kind_of, seen, text_entry}
-use Rattle.tiny_native.specs.Types.{cli_type}
+use Rattle.board_ids.specs.Ids.{cli_type}
 use Rattle.tiny_native.specs.declared.arrays.ArrayAt.{ArrayAt}
 use Rattle.machine.specs.Natives.{text_at, is_range, new_text, piece, spliced, copy_elements, on_array_or_null, number_text}
 use Rattle.tiny_native.specs.declared.pieces.Span.{Span}

@@ -12,7 +12,7 @@ use Rattle.tiny_ram.specs.Things.{Entry, entry_cells}
 use Rattle.tiny_ram.specs.Memory.{Memory, used, with_entry, put_in}
 use Rattle.tiny_ram.specs.Region.{Keeps}
 use Rattle.tiny_ram.specs.declared.memory.Ram.{Ram}
-use Rattle.tiny_native.specs.Types.{cli_type}
+use Rattle.board_ids.specs.Ids.{cli_type}
 use Rattle.tiny_native.specs.Seen.{Scene, seen, text_entry}
 use Rattle.tiny_native.specs.declared.ending.NativeEnd.{NativeEnd}
 use Rattle.tiny_native.specs.declared.ending.NativeEnd.TheVariants.{Gives, Prints, Throws, Spent, NoCase}

@@ -13,7 +13,7 @@ use Rattle.tiny_ram.specs.Things.{Entry, string_shape}
 use Rattle.tiny_ram.specs.Memory.{Memory, IsEntry, heap_cells, shown, entry_value}
 use Rattle.tiny_ram.specs.Region.{Keeps}
 use Rattle.tiny_ram.specs.declared.memory.Ram.{Ram}
-use Rattle.tiny_native.specs.Types.{id_of, cli_type}
+use Rattle.board_ids.specs.Ids.{id_of, cli_type}
 
 -- a program in a state whose topmost frame calls a native, the memory that stands for it, what the board's pointers lead to, and the
 -- place and the stack with which the frame goes on

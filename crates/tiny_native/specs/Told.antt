@@ -11,7 +11,7 @@ use Rattle.tiny_ram.specs.Things.{Entry}
 use Rattle.tiny_ram.specs.Memory.{Memory, put_in}
 use Rattle.tiny_ram.specs.Region.{Keeps}
 use Rattle.tiny_ram.specs.declared.memory.Ram.{Ram}
-use Rattle.tiny_native.specs.Types.{cli_type}
+use Rattle.board_ids.specs.Ids.{cli_type}
 use Rattle.tiny_native.specs.Seen.{Scene, seen}
 use Rattle.tiny_native.specs.Copies.{elements_of}
 

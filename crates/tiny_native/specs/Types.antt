@@ -1,33 +1,8 @@
--- The board's types as the machine's.
-use Rattle.std.specs.Prelude.{ℕ, zero, suc, ◌==◌, ◌&&◌, if◌then◌else◌}
-use Rattle.plain_types.specs.declared.elem.Elem.{Elem}
-use Rattle.plain_types.specs.declared.elem.Elem.TheVariants as elem
-use Rattle.board_types.specs.declared.board.TypeAt.{TypeAt}
+-- Which types of the board are enums, and which are the same.
+use Rattle.std.specs.Prelude.{Bool, true, false, ◌==◌, ◌&&◌}
 use Rattle.board_types.specs.declared.board.BoardType.{BoardType}
-use Rattle.board_types.specs.declared.board.TheConstants.{NO_ROW}
-use Rattle.machine.specs.Data.{Id, id_eq, elem_number, CliType, Basic, EnumOf, ClassOf, ValueOf, ArrayOf}
-use Rattle.std.specs.Prelude.{Bool, true, false}
-
-abbrev pub id_of : TypeAt → Id
-id_of at = record { file = at.assembly; row = at.row }
-
--- whether it is the row of no type
-abbrev pub is_no_row : TypeAt → Bool
-is_no_row at = (at.assembly == 0) && (at.row == NO_ROW)
-
--- a type without arrays: a class, a value type without a number, an enum by its own row, and else a basic type
-abbrev pub plain_type : Elem → TypeAt → CliType
-plain_type elem.Class of = ClassOf (id_of of)
-plain_type elem.Value of = ValueOf (id_of of)
-plain_type e of = if is_no_row of then Basic e else EnumOf e (id_of of)
-
--- with so many brackets round it
-abbrev pub ranked : ℕ → CliType → CliType
-ranked zero type = type
-ranked (suc n) type = ArrayOf (ranked n type)
-
-abbrev pub cli_type : BoardType → CliType
-cli_type type = ranked type.ranks (plain_type type.elem type.of)
+use Rattle.machine.specs.Data.{id_eq, elem_number, CliType, Basic, EnumOf, ClassOf, ValueOf, ArrayOf}
+use Rattle.board_ids.specs.Ids.{id_of}
 
 abbrev pub is_enum_type : CliType → Bool
 is_enum_type (EnumOf e class) = true

@@ -12,7 +12,8 @@ ghost use Rattle.tiny_ram.specs.Region.{Keeps};
 ghost use Rattle.tiny_native.specs.Texts.{MadeText};
 ghost use Rattle.ram_words.specs.Elements.{cell_in};
 ghost use Rattle.tiny_ops.specs.Operators.{Leads, stack_value};
-ghost use Rattle.tiny_native.specs.Types.{cli_type, is_enum_type, is_no_row as no_row};
+ghost use Rattle.board_ids.specs.Ids.{cli_type};
+ghost use Rattle.tiny_native.specs.Types.{is_enum_type};
 ghost use Rattle.tiny_native.specs.Seen.{Scene, Named, ValueNamed, Shows};
 ghost use Rattle.tiny_native.specs.Copies.{number_in_text};
 ghost use Rattle.tiny_native.specs.Ends.{Meets};
@@ -20,19 +21,13 @@ ghost use Rattle.tiny_native.specs.Ends.{Meets};
 use crate::ending::NativeEnd;
 use crate::find::{BOX, Found, find, same_type};
 use crate::numbers::{signed_text, unsigned_text};
-use board_types::board::{BoardType, Known, NO_ROW, TypeAt};
+use board_ids::is_no_row;
+use board_types::board::{BoardType, Known};
 use board_types::value::{RamPlace, Value};
 use cil_opcodes::shape::IntegerType;
 use plain_types::elem::Elem;
 use ram_words::elements::{ElementKind, kind_of};
 use tiny_ram::Ram;
-
-/// Whether it is the row of no type.
-fn is_no_row(at: TypeAt) -> bool
-    ensures { result ≡ no_row at }
-{
-    at.assembly == 0 && at.row == NO_ROW
-}
 
 /// Whether it is the type of an enum: of a number, and with a row of its own.
 fn is_enum(of: BoardType) -> bool

@@ -5,7 +5,7 @@ use Rattle.board_types.specs.declared.value.Shape.{Shape}
 use Rattle.machine.specs.Data.{CliType, Value, Int}
 use Rattle.machine.specs.Natives.{array_copy}
 use Rattle.tiny_ops.specs.Operators.{stack_value}
-use Rattle.tiny_native.specs.Types.{cli_type}
+use Rattle.board_ids.specs.Ids.{cli_type}
 use Rattle.tiny_native.specs.Copies.{copied_onto}
 use Rattle.tiny_native.specs.Ends.{Meets}
 use Rattle.tiny_native.proofs.ThingKinds.{ArrayNamed, array_named, no_int}

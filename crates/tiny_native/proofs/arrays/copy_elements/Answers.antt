@@ -1,7 +1,7 @@
 use Rattle.std.proofs.Common.{◌≡◌, ◌-◌, [], false, sym, ap, ◌∙◌}
 use Rattle.board_types.specs.declared.value.Shape.{Shape}
 use Rattle.machine.specs.Data.{type_eq}
-use Rattle.tiny_native.specs.Types.{cli_type}
+use Rattle.board_ids.specs.Ids.{cli_type}
 use Rattle.tiny_native.specs.Copies.{elements_of}
 use Rattle.tiny_native.proofs.TypeSame.{tested_same, tested_types}
 use Rattle.tiny_native.proofs.CopyOutcomes.{copy_types}

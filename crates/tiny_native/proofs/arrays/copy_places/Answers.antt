@@ -8,7 +8,7 @@ use Rattle.machine.specs.Throw.{goes, raise}
 use Rattle.machine.specs.Natives.{piece, spliced}
 use Rattle.ram_words.specs.Elements.{type_held}
 use Rattle.tiny_ram.specs.Things.{Entry, Packed, layout_of}
-use Rattle.tiny_native.specs.Types.{cli_type}
+use Rattle.board_ids.specs.Ids.{cli_type}
 use Rattle.tiny_native.specs.Seen.{Scene, seen}
 use Rattle.tiny_native.specs.Copies.{AllHaveKind, PlaceHasKind, elements_of}
 use Rattle.tiny_native.specs.Ends.{NewElements}

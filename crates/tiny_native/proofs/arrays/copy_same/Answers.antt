@@ -1,6 +1,6 @@
 use Rattle.std.proofs.Common.{◌≡◌, ◌-◌, [], sym, ap, ◌∙◌, subst, rules}
 use Rattle.std.specs.Prelude.{unsigned_abs}
-use Rattle.tiny_native.specs.Types.{cli_type}
+use Rattle.board_ids.specs.Ids.{cli_type}
 use Rattle.tiny_native.specs.Copies.{elements_of, places_copied, elements_copied}
 use Rattle.tiny_native.specs.Ends.{Meets}
 use Rattle.tiny_native.proofs.TypeSame.{type_same}

@@ -3,7 +3,7 @@ use Rattle.board_types.specs.declared.value.Shape.{Shape}
 use Rattle.machine.specs.Data.{CliType, Value}
 use Rattle.machine.specs.Natives.{copy_elements}
 use Rattle.tiny_ops.specs.Operators.{stack_value}
-use Rattle.tiny_native.specs.Types.{cli_type}
+use Rattle.board_ids.specs.Ids.{cli_type}
 use Rattle.tiny_native.specs.Copies.{elements_of, copied_onto, elements_copied}
 use Rattle.tiny_native.specs.Ends.{Meets}
 use Rattle.tiny_native.proofs.ThingKinds.{ArrayNamed, array_named}

@@ -10,7 +10,7 @@ use Rattle.machine.specs.Natives.{numbers_of}
 use Rattle.tiny_ram.specs.declared.memory.Ram.{Ram}
 use Rattle.tiny_ram.specs.Things.{Entry, Packed, layout_of}
 use Rattle.tiny_ram.specs.Region.{Keeps}
-use Rattle.tiny_native.specs.Types.{cli_type}
+use Rattle.board_ids.specs.Ids.{cli_type}
 use Rattle.tiny_native.specs.Seen.{Scene, seen}
 use Rattle.tiny_native.specs.Copies.{IsElements, elements_of}
 use Rattle.tiny_native.specs.Ends.{NewElements}

@@ -7,7 +7,7 @@ use Rattle.machine.specs.Throw.{on_some}
 use Rattle.machine.specs.Rows.{on_thing}
 use Rattle.machine.specs.Natives.{initialize_array}
 use Rattle.tiny_ops.specs.Operators.{stack_value}
-use Rattle.tiny_native.specs.Types.{id_of, cli_type}
+use Rattle.board_ids.specs.Ids.{id_of, cli_type}
 use Rattle.tiny_native.specs.Seen.{ValueTold}
 use Rattle.tiny_native.specs.Told.{elements_set}
 use Rattle.tiny_native.specs.Ends.{Meets}

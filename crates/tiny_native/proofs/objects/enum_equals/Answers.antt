@@ -6,7 +6,8 @@ use Rattle.machine.specs.Throw.{on_some, goes}
 use Rattle.machine.specs.Natives.{equals_box, enum_equals}
 use Rattle.tiny_ops.specs.Operators.{stack_value}
 use Rattle.tiny_ram.specs.Memory.{shown, entry_value}
-use Rattle.tiny_native.specs.Types.{cli_type, is_enum_type}
+use Rattle.board_ids.specs.Ids.{cli_type}
+use Rattle.tiny_native.specs.Types.{is_enum_type}
 use Rattle.tiny_native.specs.Ends.{Same}
 use Rattle.tiny_native.proofs.ThingKinds.{BoxNamed, box_named}
 use Rattle.tiny_native.proofs.Enums.{enum_box, other_box}

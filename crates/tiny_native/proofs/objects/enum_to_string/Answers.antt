@@ -6,7 +6,8 @@ use Rattle.machine.specs.Natives.{enum_to_string}
 use Rattle.ram_words.specs.Elements.{cell_in}
 use Rattle.tiny_ops.specs.Operators.{stack_value}
 use Rattle.tiny_ram.specs.Memory.{shown, entry_value}
-use Rattle.tiny_native.specs.Types.{cli_type, is_enum_type}
+use Rattle.board_ids.specs.Ids.{cli_type}
+use Rattle.tiny_native.specs.Types.{is_enum_type}
 use Rattle.tiny_native.specs.Copies.{number_in_text}
 use Rattle.tiny_native.specs.Ends.{Meets}
 use Rattle.tiny_native.proofs.ThingKinds.{BoxNamed, box_named}

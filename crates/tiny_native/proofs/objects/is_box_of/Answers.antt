@@ -5,7 +5,7 @@ use Rattle.machine.specs.Data.{CliType, Value, Thing, Boxed, type_eq}
 use Rattle.machine.specs.Natives.{same_number_value, is_box_of}
 use Rattle.tiny_ops.specs.Operators.{stack_value}
 use Rattle.tiny_ram.specs.Memory.{shown, entry_value}
-use Rattle.tiny_native.specs.Types.{cli_type}
+use Rattle.board_ids.specs.Ids.{cli_type}
 use Rattle.tiny_native.specs.Seen.{IsBox, kind_of}
 use Rattle.tiny_native.proofs.ThingKinds.{boxed_of}
 use Rattle.tiny_native.proofs.TypeSame.{tested_types}

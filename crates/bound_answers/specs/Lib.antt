@@ -1,0 +1,4 @@
+pub mod Inside
+pub mod Told
+pub mod Standing
+pub mod Names
