@@ -81,7 +81,7 @@ many_size w (suc n) bytes t e =
     ∙ ap (drop (bytes_for (behind_first w) rest.0.0)) (signed_size w bytes first.0 first.1)
     ∙ drop-drop (bytes_for (behind_first w) rest.0.0) (suc (behind_first w)) bytes)
 
-plain_size_law : (l : Length) (lie : Lie) (bytes : List ℕ) (x : Plain × List ℕ) → read_plain l lie bytes ≡ Some x → x.1 ≡ drop (plain_size l x.0 lie) bytes
+pub plain_size_law : (l : Length) (lie : Lie) (bytes : List ℕ) (x : Plain × List ℕ) → read_plain l lie bytes ≡ Some x → x.1 ≡ drop (plain_size l x.0 lie) bytes
 plain_size_law l NoBytes bytes x e = let same : (Bare, bytes) ≡ x = cc e in sym (ap (λ (y : Plain × List ℕ). y.1) same)
 plain_size_law l (SignedBy w) bytes x e =
     let r = some_back (read_signed w bytes) (λ n. Some (Signed n.0, n.1)) x e in
