@@ -1,0 +1,4 @@
+pub mod Sizes
+pub mod Walks
+pub mod Finds
+pub mod SetLaws
