@@ -1,7 +1,7 @@
 -- Within the limits of an image the numbers of tokens have two bytes.
-use Rattle.std.proofs.Common.{◌≡◌, ℕ, zero, suc, ◌+◌, ◌<◌, ◌≤◌, Bool, true, false, List, [], ◌∷◌, length, map, take, Option, Some, None, refl, sym, ap, ◌∙◌, subst, arith}
-use Rattle.std.specs.Prelude.{◌==◌, nat_lt, if◌then◌else◌, count_by, min, slice_get, slice_index_or, unwrap_or}
-use Rattle.std.specs.List.{range_with_len, zip, list_any}
+use Rattle.std.proofs.Common.{◌≡◌, ℕ, zero, suc, ◌+◌, ◌<◌, ◌≤◌, Bool, true, false, List, [], ◌∷◌, length, map, Option, Some, None, refl, sym, ap, ◌∙◌, subst, arith}
+use Rattle.std.specs.Prelude.{◌==◌, nat_lt, if◌then◌else◌, slice_get, slice_index_or, unwrap_or}
+use Rattle.std.specs.List.{range_with_len, list_any}
 use Rattle.std.specs.Option.{option_map, option_map_or}
 use Rattle.std.proofs.lemmas.Bool.{ltb-false}
 use Rattle.std.proofs.lemmas.Option.{slice_get-map}
@@ -15,16 +15,15 @@ use Rattle.file_tables.specs.File.{FilePart}
 use Rattle.kept_rows.specs.Select.{select, below}
 use Rattle.assemblies.specs.Rows.{TypeToken, TypeDef, TypeRef, TypeSpec, Assembly}
 use Rattle.assemblies.specs.Binding.{numbered}
-use Rattle.assemblies.specs.Chosen.{Choice, token_to, ref_to, field_ref_to, method_ref_to, type_row_to, field_row_to, raw_to, chosen}
+use Rattle.assemblies.specs.Chosen.{Choice, token_to, ref_to, type_row_to, raw_to, chosen}
 use Rattle.image_bytes.specs.Layout.{Image, all_onto, byte_onto}
 use Rattle.image_form.specs.Signatures.{type_word}
 use Rattle.image_form.specs.Whole.{Methods, strings_walk, laid}
 use Rattle.image_pools.specs.Pools.{Entry, same_entry, pool, entry_size, offset, pool_onto}
 use Rattle.chosen_image.specs.Spells.{chosen_method, chosen_methods, KeepsLimits}
-use Rattle.world_rows.specs.Tokens.{methods, fields, member_refs, literals, from_zero, is_field_ref, is_method_ref, type_token, table_of, number_of}
+use Rattle.world_rows.specs.Tokens.{methods, fields, member_refs, literals, from_zero, is_field_ref, type_token, table_of, number_of}
 use Rattle.world_rows.specs.World.{assemblies_of}
 use Rattle.msspot_write.specs.Parts.{most, first_over, counted, found, literal_of, pools_of}
-use Rattle.msspot_write.specs.Spelt.{parts_for}
 use Rattle.row_numbers.specs.declared.table.Table.{Table}
 use Rattle.row_numbers.specs.declared.table.Table.TheVariants as table
 use Rattle.row_numbers.specs.Tables.{table_length}
@@ -39,7 +38,7 @@ use Rattle.converted.specs.Choosing.{choice_of}
 use Rattle.converted.specs.Images.{parts_at, image_of}
 use Rattle.converted.specs.Over.{limit_in, over_counts}
 use Rattle.converted.proofs.LimitLaws.{keeps_limits}
-use Rattle.image_numbers.specs.Numbers.{uncut, reference_number, reference_numbers, reference_at, field_number, method_number, type_number, literal_number, number_in, number_for}
+use Rattle.image_numbers.specs.Numbers.{uncut, reference_number, reference_at, field_number, method_number, type_number, literal_number, number_for}
 use Rattle.image_numbers.proofs.KeptLaws.{kept_past, below_all}
 use Rattle.image_numbers.proofs.StringLaws.{strings_law}
 

@@ -1,29 +1,28 @@
 -- The literals of a file's kept code are in the pool of its image's strings.
-use Rattle.std.proofs.Common.{◌≡◌, ℕ, zero, suc, ◌+◌, Bool, true, false, ◌||◌, List, [], ◌∷◌, ◌++◌, map, Option, Some, None, refl, sym, ap, ◌∙◌, subst, arith}
+use Rattle.std.proofs.Common.{◌≡◌, ℕ, zero, suc, ◌+◌, Bool, true, false, ◌||◌, List, [], ◌∷◌, map, Option, Some, None, refl, ap, ◌∙◌, arith}
 use Rattle.std.specs.Prelude.{◌==◌, ◌&&◌, if◌then◌else◌, is_some, slice_get, slice_index, unsigned_abs}
 use Rattle.std.specs.List.{flat_map, list_any, zip}
-use Rattle.std.specs.Option.{option_map, option_map_or}
+use Rattle.std.specs.Option.{option_map}
 use Rattle.std.proofs.lemmas.Bool.{eq-eqb}
 use Rattle.std.proofs.lemmas.List.Folds.{list_any-append}
 use Rattle.std.proofs.lemmas.Option.{slice_get-map}
 use Rattle.cil_opcodes.specs.declared.shape.Operand.TheVariants as kinds
-use Rattle.cil_opcodes.specs.declared.shape.Operand.{Operand}
 use Rattle.cil_code.specs.Bodies.{BodyPart}
 use Rattle.file_tables.specs.Heaps.{user_string_at}
 use Rattle.file_tables.specs.Metadata.{MetadataPart, rows_of}
 use Rattle.file_tables.specs.File.{FilePart}
 use Rattle.machine.specs.Program.{Body}
 use Rattle.machine.specs.Texts.{same_text}
-use Rattle.kept_rows.specs.Select.{select, below}
+use Rattle.kept_rows.specs.Select.{below}
 use Rattle.kept_rows.proofs.SelectLaws.{there}
 use Rattle.assemblies.specs.Rows.{RawOperand, RawText, RawLine, RawCode, MethodRow, Assembly}
 use Rattle.assemblies.specs.Binding.{numbered}
-use Rattle.assemblies.specs.Chosen.{Choice, line_to, code_to, operand_to, chosen}
+use Rattle.assemblies.specs.Chosen.{Choice, line_to, code_to, operand_to}
 use Rattle.assemblies.proofs.Numbered.{get_numbered}
 use Rattle.image_pools.specs.Pools.{Entry, same_entry, pool, offset}
 use Rattle.image_form.specs.Codes.{Meaning, Instr, operand_of, text_operand, line_of, lines_of, size, long, number_of}
 use Rattle.image_form.specs.Form.{Manner, units_onto}
-use Rattle.image_form.specs.Whole.{Methods, literal_entry, strings_walk}
+use Rattle.image_form.specs.Whole.{Methods, strings_walk}
 use Rattle.chosen_image.specs.Spells.{chosen_method, chosen_methods}
 use Rattle.world_rows.specs.Tokens.{methods, literals, table_of, number_of as row_number}
 use Rattle.world_rows.specs.Lines.{units_from, raw_code, body_part, lines_of as file_lines}
@@ -33,12 +32,10 @@ use Rattle.msspot_write.specs.declared.parts.Parts.{Parts}
 use Rattle.msspot_write.specs.Parts.{found, literal_of, pools_of}
 use Rattle.msspot_write.specs.Spelt.{operand_parts, code_parts, literal_parts, parts_for}
 use Rattle.code_shrink.specs.FileLines.{literal_units, file_meaning}
-use Rattle.code_shrink.specs.Lines.{AreBytes}
 use Rattle.code_shrink.specs.Shrunk.{instrs_in}
 use Rattle.code_shrink.proofs.FileLines.{lines_same}
 use Rattle.converted.specs.Bodies.{body_of, manner_in}
 use Rattle.image_numbers.specs.Named.{NamesKept}
-use Rattle.image_numbers.proofs.ByteLaws.{literal_text, spelt_again}
 use Rattle.image_numbers.proofs.StringLaws.{strings_law}
 
 -- ---- a literal of a line is one of its method's, and that is one of all

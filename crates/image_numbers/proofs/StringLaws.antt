@@ -1,12 +1,10 @@
 -- The names and literals of the parts that spell rows are those that are laid for the rows.
-use Rattle.std.proofs.Common.{◌≡◌, ℕ, ◌+◌, Bool, true, false, List, [], ◌∷◌, ◌++◌, map, length, Option, Some, None, refl, ap, ◌∙◌, append_assoc, arith}
-use Rattle.std.specs.Prelude.{if◌then◌else◌}
+use Rattle.std.proofs.Common.{◌≡◌, ℕ, ◌+◌, Bool, true, false, List, [], ◌∷◌, ◌++◌, map, length, Option, Some, None, refl, ap, ◌∙◌, append_assoc}
 use Rattle.std.specs.List.{flat_map}
 use Rattle.std.proofs.lemmas.List.{map-append}
 use Rattle.machine.specs.Program.{Body, native_number}
-use Rattle.classes.specs.Classes.{FieldKind}
 use Rattle.assemblies.specs.Chosen.{first_of}
-use Rattle.assemblies.specs.Rows.{RawType, AssemblyRow, TypeRefRow, FieldRefRow, MethodRefRow, TypeRow, FieldRow, RawOperand, RawNothing, RawNumber, RawTargets, RawTypeOf, RawField, RawMethod, RawText, RawLine, RawClause, RawCode, MethodRow, Assembly}
+use Rattle.assemblies.specs.Rows.{AssemblyRow, TypeRefRow, FieldRefRow, MethodRefRow, TypeRow, FieldRow, RawOperand, RawNothing, RawNumber, RawTargets, RawTypeOf, RawField, RawMethod, RawText, RawLine, RawClause, RawCode, MethodRow, Assembly}
 use Rattle.image_form.specs.Signatures.{locals_onto}
 use Rattle.image_form.specs.Form.{Manner, clauses_in, data_of}
 use Rattle.image_form.specs.Whole.{name_entry, literals, literals_in, Methods, strings_walk, interfaces_of, clauses_of, datas_of}

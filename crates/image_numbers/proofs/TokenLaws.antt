@@ -1,12 +1,12 @@
 -- The tokens of a file's kept code get the words that its image has for what they name.
-use Rattle.std.proofs.Common.{◌≡◌, ℕ, zero, suc, ◌+◌, Bool, true, List, [], ◌∷◌, Some, None, refl, sym, ap, ◌∙◌, subst}
+use Rattle.std.proofs.Common.{◌≡◌, ℕ, suc, Bool, true, List, [], ◌∷◌, Some, None, refl, sym, ap, ◌∙◌, subst}
 use Rattle.std.specs.Prelude.{◌==◌, if◌then◌else◌, unsigned_abs, slice_get}
 use Rattle.std.specs.List.{list_any}
 use Rattle.std.specs.Option.{option_map_or}
 use Rattle.cil_opcodes.specs.declared.shape.Operand.{Operand}
 use Rattle.cil_opcodes.specs.declared.shape.Operand.TheVariants as kinds
 use Rattle.cil_code.specs.Bodies.{BodyPart}
-use Rattle.file_tables.specs.Metadata.{MetadataPart, rows_of}
+use Rattle.file_tables.specs.Metadata.{rows_of}
 use Rattle.file_tables.specs.File.{FilePart}
 use Rattle.assemblies.specs.Rows.{Assembly}
 use Rattle.assemblies.specs.Chosen.{Choice, chosen}
@@ -16,7 +16,7 @@ use Rattle.image_form.specs.Form.{words, units_onto}
 use Rattle.image_form.specs.Whole.{Methods, literal_entry, offsets, strings_walk}
 use Rattle.image_pools.specs.Pools.{Entry, pool, offset}
 use Rattle.chosen_image.specs.Spells.{chosen_methods}
-use Rattle.world_rows.specs.Tokens.{methods, fields, member_refs, literals, table_of, number_of as row_number}
+use Rattle.world_rows.specs.Tokens.{methods, fields, member_refs, table_of, number_of as row_number}
 use Rattle.world_rows.specs.World.{assemblies_of}
 use Rattle.msspot_write.specs.Parts.{found, literal_of, pools_of}
 use Rattle.msspot_write.specs.Spelt.{literal_parts}
@@ -35,7 +35,7 @@ use Rattle.converted.specs.Numbered.{AllGetNumbers}
 use Rattle.converted.specs.Over.{over_counts}
 use Rattle.converted.proofs.BodyLaws.{assembly_is}
 use Rattle.image_numbers.specs.Numbers.{uncut, reference_at, field_number, method_number, type_number, literal_number, number_for, InImage, token_number, token_word}
-use Rattle.image_numbers.specs.Named.{IsNamed, AllNamed, NamesKept, AllNameKept, AreNumbersOf}
+use Rattle.image_numbers.specs.Named.{IsNamed, NamesKept, AllNameKept, AreNumbersOf}
 use Rattle.image_numbers.proofs.WordLaws.{type_law, field_law, method_law}
 use Rattle.image_numbers.proofs.ByteLaws.{literal_text, spelt_again}
 use Rattle.image_numbers.proofs.LiteralLaws.{has_text, AreFound, literal_found, literal_there, Literal, literal_of_token}

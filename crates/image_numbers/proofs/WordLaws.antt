@@ -1,5 +1,5 @@
 -- The words that the image has for the rows which tokens name are the numbers that the tokens get, of any size.
-use Rattle.std.proofs.Common.{◌≡◌, ⊎_elim, ℕ, zero, suc, ◌+◌, ◌<◌, ◌≤◌, Bool, true, false, not, List, [], ◌∷◌, length, map, take, Option, Some, None, refl, sym, ap, ◌∙◌, subst, arith}
+use Rattle.std.proofs.Common.{◌≡◌, ⊎_elim, ℕ, zero, suc, ◌+◌, ◌<◌, Bool, true, false, not, List, [], length, map, take, Some, refl, ap, ◌∙◌, subst, arith}
 use Rattle.std.specs.Prelude.{◌==◌, if◌then◌else◌, count_by, slice_get, slice_index_or, unwrap_or}
 use Rattle.std.specs.List.{range_with_len}
 use Rattle.std.proofs.lemmas.Bool.{cases_lt, eqb-true}
@@ -20,7 +20,7 @@ use Rattle.row_numbers.specs.Tables.{table_length}
 use Rattle.row_counts.specs.Counts.{table_rows}
 use Rattle.kept_marks.specs.Kept.{is_kept}
 use Rattle.kept_marks.specs.Masks.{Masks, choice_of_rows, choice_with}
-use Rattle.image_numbers.specs.Numbers.{uncut, reference_number, reference_numbers, reference_at, field_number, method_number, type_number, literal_number, number_in}
+use Rattle.image_numbers.specs.Numbers.{uncut, reference_number, reference_at, field_number, method_number, type_number, literal_number, number_in}
 use Rattle.image_numbers.proofs.KeptLaws.{kept_there}
 
 -- the number of a row of MemberRef is in the list of them

@@ -1,4 +1,4 @@
-use Rattle.std.proofs.Common.{◌≡◌, ◌+◌, ◌<◌, ◌≤◌, ap, sym, ◌∙◌, arith}
+use Rattle.std.proofs.Common.{◌≡◌, ◌+◌, ◌<◌, ◌≤◌, ap, ◌∙◌, arith}
 use Rattle.file_tables.specs.Metadata.{row_count}
 use Rattle.world_rows.specs.Tokens.{member_refs}
 use Rattle.kept_marks.specs.Masks.{masks_of}
