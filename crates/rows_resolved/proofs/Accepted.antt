@@ -1,17 +1,20 @@
 -- What the verdict says of accepted files: their names resolve.
 use Rattle.std.proofs.Common.{◌≡◌, ℕ, List, Option, Some, None, refl}
+use Rattle.std.specs.Prelude.{slice_get}
 use Rattle.plain_types.specs.declared.fault.Fault.{Fault}
+use Rattle.cil_code.specs.Bodies.{BodyPart}
+use Rattle.file_tables.specs.Metadata.{rows_of}
 use Rattle.file_tables.specs.File.{FilePart}
 use Rattle.assemblies.specs.Rows.{Assembly}
 use Rattle.kept_closure.specs.Kept.{HasAll, Resolves}
 use Rattle.kept_rules.specs.Rules.{MembersStand}
-use Rattle.world_rows.specs.Tokens.{nested_classes}
+use Rattle.world_rows.specs.Tokens.{methods, nested_classes}
 use Rattle.world_rows.specs.World.{size_of, rows_alone, assemblies_of}
 use Rattle.world_rows.proofs.Opened.{opened, types_stand}
 use Rattle.verdict_rules.specs.Order.{phase_fault}
 use Rattle.verdict_rules.specs.World.{World, world_of}
 use Rattle.verdict_rules.specs.Types.{type_rules}
-use Rattle.verdict_rules.specs.Code.{slot_rules, code_rules}
+use Rattle.verdict_rules.specs.Code.{slot_rules, body_of, code_rules}
 use Rattle.verdict_rules.specs.Verdict.{member_rules, phases_fault, all_phases, Accepted, verdict_by, verdict, Opened}
 use Rattle.verdict_laws.proofs.Kept.{each_kept}
 use Rattle.rows_resolved.specs.Resolved.{resolved_rows, IsAccepted}
@@ -19,7 +22,7 @@ use Rattle.rows_resolved.proofs.Choice.{Means, has_all, members_stand, all_resol
 use Rattle.rows_resolved.proofs.Types.{types_mean}
 use Rattle.rows_resolved.proofs.Members.{fields_mean, signatures_mean}
 use Rattle.rows_resolved.proofs.Entry.{entry_means}
-use Rattle.rows_resolved.proofs.Codes.{codes_mean}
+use Rattle.rows_resolved.proofs.Codes.{codes_mean, BodyKept, body_kept}
 
 no_fault : (o : Option Fault) → verdict_by o ≡ Accepted → o ≡ None
 no_fault None e = refl
@@ -73,6 +76,11 @@ module _ (files : List FilePart) (accepted : IsAccepted files) where
 
   pub resolve : Resolves size ps (resolved_rows size ps)
   resolve = all_resolve size ps means
+
+  -- ---- and the bodies of rows are kept
+
+  pub bodies : (f n : ℕ) (z : FilePart) (row : List ℕ) (b : BodyPart) → slice_get files f ≡ Some z → slice_get (rows_of z.metadata methods) n ≡ Some row → body_of z row ≡ Some b → BodyKept files f n z b
+  bodies = body_kept files in_members in_code
 
 -- ---- files that are read from bytes keep rule 12
 

@@ -9,7 +9,7 @@ use Rattle.cil_opcodes.specs.declared.shape.Row.{Row}
 use Rattle.cil_opcodes.specs.Rows.{row_of}
 use Rattle.cil_code.specs.Bodies.{BodyPart}
 use Rattle.cil_code.specs.Walk.{Placed, instructions_of, code_fault}
-use Rattle.file_tables.specs.Metadata.{MetadataPart}
+use Rattle.file_tables.specs.Metadata.{MetadataPart, rows_of}
 use Rattle.file_tables.specs.File.{FilePart}
 use Rattle.machine.specs.Data.{Id, CliType, ClassOf, id_eq}
 use Rattle.machine.specs.Program.{Method, Code, Missing}
@@ -30,7 +30,7 @@ use Rattle.assemblies.proofs.Belong.{Listed, listed}
 use Rattle.kept_closure.specs.Named.{Stands, InOption, InKind, InClause, InLine, InCode}
 use Rattle.kept_closure.specs.Kept.{NamesClass, NamesMethod}
 use Rattle.world_rows.specs.Tokens.{methods}
-use Rattle.world_rows.specs.Rows.{is_internal}
+use Rattle.world_rows.specs.Rows.{is_internal, method_row}
 use Rattle.world_rows.specs.Lines.{is_locals_token, line_by, raw_line, lines_of, body_part, raw_code}
 use Rattle.world_rows.specs.World.{size_of, rows_alone, assemblies_of, ecma_sources}
 use Rattle.code_rules.specs.Pass.{Lattice, Entry, Step, After, visit, fallen, if_sound, pass}
@@ -42,7 +42,7 @@ use Rattle.verdict_rules.specs.World.{World, world_of, exception_of, no_type}
 use Rattle.verdict_rules.specs.Code.{unowned, method_here, walk_test, target_test, clause_test, pass_test, listed_tests, body_of, body_tests, is_code, method_tests, code_tests, code_rules}
 use Rattle.verdict_rules.specs.Verdict.{member_rules}
 use Rattle.verdict_laws.proofs.Kept.{head_kept, row_kept}
-use Rattle.verdict_laws.proofs.Rows.{native, from_zero}
+use Rattle.verdict_laws.proofs.Rows.{native, from_zero, whole, file_at}
 use Rattle.rows_resolved.proofs.Named.{each_by}
 use Rattle.rows_resolved.proofs.Choice.{NamesType, NamesVariable}
 use Rattle.rows_resolved.proofs.Members.{OfMethod, method_of, signature_told}
@@ -52,7 +52,7 @@ use Rattle.rows_resolved.proofs.Locals.{body_sound, locals_mean}
 -- ---- lists of tests of which none fails
 
 module _ (f t r : ℕ) where
-  both_kept : (xs ys : List Test) → first_fault f t r (xs ++ ys) ≡ None → (first_fault f t r xs ≡ None) × (first_fault f t r ys ≡ None)
+  pub both_kept : (xs ys : List Test) → first_fault f t r (xs ++ ys) ≡ None → (first_fault f t r xs ≡ None) × (first_fault f t r ys ≡ None)
   both_kept [] ys e = (refl, e)
   both_kept (x ∷ xs) ys e =
       let h = head_kept f t r x (xs ++ ys) e in
@@ -129,6 +129,12 @@ module _ (files : List FilePart) where
 
   abbrev exception : CliType
   exception = ClassOf (exception_of (world_of files))
+
+  -- what is kept of the body of a row: all tests of it, and of each line that its operand is of the kind that its shape takes
+  pub record BodyKept (f n : ℕ) (z : FilePart) (b : BodyPart) : Type 0 where
+    pub method : Method
+    pub tests : first_fault f methods (suc n) (body_tests (world_of files) f z method (Some b)) ≡ None
+    pub fit : (i : ℕ) (l : RawLine) → slice_get (lines_of z.metadata b.code) i ≡ Some l → operand_fits (ecma_sources files).classes l.shape (operand (size_of (rows_alone files)) (assemblies_of files) f l.operand) ≡ true
 
   abbrev Meant : ℕ → RawCode → Type 0
   Meant f c = InCode (NamesClass size ps f) (NamesType size ps f) (NamesMethod size ps f) (NamesVariable size ps f) c
@@ -272,3 +278,24 @@ module _ (files : List FilePart) where
         by_internal : (c : Bool) → is_internal r.row ≡ c → InOption (Meant f) (if c then None else option_map (raw_code r.file.metadata) (body_part r.file (slice_index r.row 0)))
         by_internal true e = tt
         by_internal false e = by_body e (body_part r.file (slice_index r.row 0)) refl
+
+    -- a body that a row has
+    part_of : (z : FilePart) (row : List ℕ) (b : BodyPart) → body_of z row ≡ Some b → (is_internal row ≡ false) × (body_part z (slice_index row 0) ≡ Some b)
+    part_of z row b = by (is_internal row) refl
+      where
+        by : (c : Bool) → is_internal row ≡ c → (if c then None else body_part z (slice_index row 0)) ≡ Some b → (is_internal row ≡ false) × (body_part z (slice_index row 0) ≡ Some b)
+        by true e h = absurd (cc h)
+        by false e h = (e, h)
+
+    pub body_kept : (f n : ℕ) (z : FilePart) (row : List ℕ) (b : BodyPart) → slice_get files f ≡ Some z → slice_get (rows_of z.metadata methods) n ≡ Some row → body_of z row ≡ Some b → BodyKept f n z b
+    body_kept f n z row b at here is =
+        let part = part_of z row b is in
+        let m : MethodRow = method_row z (native files f) n row in
+        let r : OfMethod files f n m = record { file = z; row = row; is_file = at; is_row = here; is = refl } in
+        let s : Stands ps (λ q. q.methods) f n (whole files f z) m =
+        (file_at files f z at, from_zero (method_row z (native files f)) n (rows_of z.metadata methods) ∙ ap (option_map (method_row z (native files f) n)) here) in
+        record {
+          method = (mine f n (whole files f z) m s r b part.0 part.1).0;
+          tests = kept f n (whole files f z) m s r b part.0 part.1;
+          fit = fits f n (whole files f z) m s r b part.0 part.1;
+        }

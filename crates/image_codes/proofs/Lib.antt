@@ -1,0 +1,6 @@
+mod ByteLaws
+mod SoundLaws
+mod AcceptedLaws
+mod LeftLaws
+mod LengthLaws
+mod JoinLaws
