@@ -1,4 +1,5 @@
 pub mod ListLaws
+pub mod MoreLaws
 pub mod CountLaws
 pub mod TypeLaws
 pub mod RepeatLaws

@@ -26,6 +26,7 @@ use Rattle.class_table.specs.declared.rows.ClassRow.{ClassRow}
 use Rattle.class_table.specs.declared.rows.FileRows.{FileRows}
 use Rattle.class_table.specs.declared.rows.ClassTable.{ClassTable}
 use Rattle.class_table.specs.Seen.{class_row, classes_seen, row_seen}
+use Rattle.class_table.specs.Outlines.{Outline, outline_seen, outline_of}
 use Rattle.class_table.specs.Whole.{IsTable}
 use Rattle.class_table.proofs.TableLaws.{table_law}
 use Rattle.class_queries.specs.Found.{found_row}
@@ -34,7 +35,7 @@ use Rattle.verdict_rules.specs.Order.{TableRules, first_fault, test}
 use Rattle.verdict_rules.specs.World.{World, world_of}
 use Rattle.verdict_rules.specs.Types.{has_layout, has_name, is_type_before, of_class, class_tests, type_tests, interface_tests}
 use Rattle.profile_subject.specs.Faults.{row_fault}
-use Rattle.type_tests.specs.Columns.{first_of_name, precedes}
+use Rattle.type_tests.specs.Columns.{class_name, first_of_name, precedes}
 use Rattle.type_tests.specs.Judged.{world_seen}
 use Rattle.type_tests.proofs.ListLaws.{any_before}
 
@@ -167,10 +168,37 @@ module _ (m : MetadataPart) (kinds : ℕ → TypeKind) where
       ∙ any_before (has_name (type_row m kinds n (row_of m type_defs (suc n)))) types n
       ∙ ap (precedes n) (same_place (type_name_at m n (row_of m type_defs (suc n))))
 
+abbrev outline_name : Outline → TypeName
+outline_name o = record { enclosing = o.enclosing; namespace = o.namespace; name = o.name }
+
 module _ (files : List FilePart) (file : ℕ) (m : MetadataPart) (there : option_map (λ (p : FilePart). p.metadata) (slice_get files file) ≡ Some m) where
   assembly_at : slice_get (assemblies_of files) file ≡ option_map (assembly_with (size_of (rows_alone files)) files (rows_alone files) file) (slice_get files file)
   unfolding assemblies_of
   assembly_at = get_numbered (assembly_with (size_of (rows_alone files)) files (rows_alone files)) 0 file files ∙ ap (λ n. option_map (assembly_with (size_of (rows_alone files)) files (rows_alone files) n) (slice_get files file)) (from_none file)
+
+  -- the names of the rows of a table
+  pub rows_named : (t : ClassTable) → IsTable files t → (f : FileRows) → slice_get t.files.items file ≡ Some f → map class_name f.classes.items ≡ numbered (type_name_at m) 0 (rows_of m type_defs)
+  rows_named t table f here =
+      outlined f.classes.items
+      ∙ ap (map outline_name) (table.rows file f here).classes
+      ∙ ap (λ (o : Option Assembly). map outline_name (unwrap_or (option_map (λ (p : Assembly). map (outline_of (size_of (rows_alone files)) (assemblies_of files) file) p.types) o) [])) assembly_at
+      ∙ go (slice_get files file) there
+    where
+      outlined : (cs : List ClassRow) → map class_name cs ≡ map outline_name (map outline_seen cs)
+      outlined [] = refl
+      outlined (c ∷ cs) = ap (λ ns. class_name c ∷ ns) (outlined cs)
+
+      of_types : (ts : List TypeRow) → map outline_name (map (outline_of (size_of (rows_alone files)) (assemblies_of files) file) ts) ≡ map type_name ts
+      of_types [] = refl
+      of_types (y ∷ ys) = ap (λ ns. type_name y ∷ ns) (of_types ys)
+
+      go : (o : Option FilePart) → option_map (λ (p : FilePart). p.metadata) o ≡ Some m → map outline_name (unwrap_or (option_map (λ (p : Assembly). map (outline_of (size_of (rows_alone files)) (assemblies_of files) file) p.types) (option_map (assembly_with (size_of (rows_alone files)) files (rows_alone files) file) o)) []) ≡ numbered (type_name_at m) 0 (rows_of m type_defs)
+      go None e = cc e
+      go (Some x) e =
+          let same : x.metadata ≡ m = cc e in
+          of_types (numbered (type_row x.metadata (λ i. kind_of (size_of (rows_alone files)) (rows_alone files) (id_at file i))) 0 (rows_of x.metadata type_defs))
+          ∙ names_are x.metadata (λ i. kind_of (size_of (rows_alone files)) (rows_alone files) (id_at file i)) 0 (rows_of x.metadata type_defs)
+          ∙ ap (λ (y : MetadataPart). numbered (type_name_at y) 0 (rows_of y type_defs)) same
 
   pub before_is : (n : ℕ) → n < row_count m type_defs → is_type_before (assemblies_of files) (id_at file n) ≡ precedes n (first_of_name m (type_name_at m n (row_of m type_defs (suc n))))
   before_is n within = ap (λ (o : Option Assembly). holds_some o (λ p. holds_some (slice_get p.types n) (λ t. list_any (has_name t) (take n p.types)))) assembly_at ∙ go (slice_get files file) there

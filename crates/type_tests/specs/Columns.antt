@@ -8,8 +8,13 @@ use Rattle.assemblies.specs.Binding.{numbered}
 use Rattle.world_rows.specs.Tokens.{type_defs, class_layouts}
 use Rattle.world_rows.specs.Rows.{type_row}
 use Rattle.type_names.specs.Names.{TypeName, same_name, type_name, type_name_at}
+use Rattle.class_table.specs.declared.rows.ClassRow.{ClassRow}
 use Rattle.member_reading.specs.Columns.{FindsRows}
 use Rattle.type_tests.specs.declared.columns.TypeColumns.{TypeColumns}
+
+-- the names of a row of a table
+abbrev pub class_name : ClassRow → TypeName
+class_name c = record { enclosing = c.enclosing; namespace = c.namespace.now; name = c.name.now }
 
 -- the first type of a file with the names
 abbrev pub first_of_name : MetadataPart → TypeName → Option ℕ
