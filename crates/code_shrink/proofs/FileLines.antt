@@ -81,7 +81,7 @@ lines_from (suc n) m code at bytes h le =
     ∙ one_line (raw_line m code) (record { at = at; instr = s.instr }) (walk_from code (at + s.instr.length)).met l (line_same m code at s bytes g.stands)
     ∙ ap (λ (ls : List RawLine). l ∷ ls) ih
     ∙ ap (λ (k : ℕ). l ∷ lines_of (file_meaning m) long (at + k) (rest code (at + s.instr.length))) (sym z.long_is)
-    ∙ sym (ap (lines_of (file_meaning m) long at) (rest_goes code at s g.stands h)))
+    ∙ sym (ap (lines_of (file_meaning m) long at) (rest_goes code at s g.stands)))
     (λ past.
     ap (λ (w : Walk). filter_map (raw_line m code) w.met) (walk_ends code at past)
     ∙ sym (ap (lines_of (file_meaning m) long at) (rest_ends code at past)))

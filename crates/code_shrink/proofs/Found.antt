@@ -97,41 +97,34 @@ module _ {A : Type 0} where
         nowhere_else = λ at no. ap (short_in (starts_from 0 0 xs)) (omega arith) ∙ (paired xs 0 0 at h).elsewhere no;
       }
 
--- ---- bisection
+-- ---- by the last start up to a place
+
+abbrev pub Before : List Start → ℕ → ℕ → Type 0
+Before starts at k = (j : ℕ) (t : Start) → 0 < j → j ≤ k → slice_get starts j ≡ Some t → t.long ≤ at
+
+abbrev pub Behind : List Start → ℕ → ℕ → Type 0
+Behind starts at k = (j : ℕ) (t : Start) → k < j → slice_get starts j ≡ Some t → at < t.long
 
 one_there : (starts : List Start) (m : ℕ) (d s : Start) → m < length starts → slice_get starts m ≡ Some s → get_or starts m d ≡ s
 one_there starts m d s lt e =
     let both : Path (Option Start) (Some (get_or starts m d)) (Some s) = sym (slice_get-get_or starts m d lt) ∙ e in
     cc
 
-pub before_middle : (starts : List Start) (at m : ℕ) (d : Start) → Rise starts → m < length starts → (get_or starts m d).long < at → (k : ℕ) (s : Start) → k < m + 1 → slice_get starts k ≡ Some s → s.long < at
-before_middle starts at m d h inside low k s lt e =
+pub nowhere : (starts : List Start) (at k : ℕ) (d : Start) → Rise starts → k < length starts → Before starts at k → Behind starts at k → ((get_or starts k d).long ≡ at → ⊥) → short_in starts at ≡ None
+nowhere starts at k d rise inside before behind other =
+    none_found starts at (λ j s e q.
     ⊎_elim
-    (λ less. let r = h k m s (get_or starts m d) less e (slice_get-get_or starts m d inside) in let q : s.long < at = omega (arith, r, low) in q)
-    (λ more.
-    let same : m ≡ k = omega (arith, more, lt) in
-    let is = one_there starts m d s inside (ap (slice_get starts) same ∙ e) in
-    let q : s.long < at = omega (arith, ap (λ (x : Start). x.long) is, low) in
-    q)
-    (cases_lt k m)
-
-pub behind_middle : (starts : List Start) (at m : ℕ) (d : Start) → Rise starts → m < length starts → at ≤ (get_or starts m d).long → ((get_or starts m d).long ≡ at → ⊥) → (k : ℕ) (s : Start) → m ≤ k → slice_get starts k ≡ Some s → at < s.long
-behind_middle starts at m d h inside high other k s le e =
+    (λ lt.
+    let low = before k (get_or starts k d) (omega (arith, lt)) (omega arith) (slice_get-get_or starts k d inside) in
+    let less = rise j k s (get_or starts k d) lt e (slice_get-get_or starts k d inside) in
+    let b : ⊥ = omega (arith, low, less, q) in
+    b)
+    (λ ge.
     ⊎_elim
-    (λ less. let r = h m k (get_or starts m d) s less (slice_get-get_or starts m d inside) e in let q : at < s.long = omega (arith, r, high) in q)
-    (λ more.
-    let same : m ≡ k = omega (arith, more, le) in
-    let is = ap (λ (x : Start). x.long) (one_there starts m d s inside (ap (slice_get starts) same ∙ e)) in
-    ⊎_elim
-    (λ lt. let q : at < s.long = omega (arith, is, lt) in q)
-    (λ ge. absurd (other (omega (arith, high, ge))))
-    (cases_lt at (get_or starts m d).long))
-    (cases_lt m k)
-
-pub nowhere : (starts : List Start) (at low high : ℕ) → high ≤ low → ((k : ℕ) (s : Start) → k < low → slice_get starts k ≡ Some s → s.long < at) → ((k : ℕ) (s : Start) → high ≤ k → slice_get starts k ≡ Some s → at < s.long) → short_in starts at ≡ None
-nowhere starts at low high le before behind =
-    none_found starts at (λ k s e q.
-    ⊎_elim
-    (λ lt. let r = before k s lt e in let b : ⊥ = omega (arith, r, q) in b)
-    (λ ge. let r = behind k s (omega (arith, ge, le)) e in let b : ⊥ = omega (arith, r, q) in b)
-    (cases_lt k low))
+    (λ lt. let high = behind j s lt e in let b : ⊥ = omega (arith, high, q) in b)
+    (λ le.
+    let same : j ≡ k = omega (arith, ge, le) in
+    let is = one_there starts k d s inside (ap (slice_get starts) (sym same) ∙ e) in
+    other (ap (λ (x : Start). x.long) is ∙ q))
+    (cases_lt k j))
+    (cases_lt j k))

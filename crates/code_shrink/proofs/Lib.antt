@@ -1,9 +1,11 @@
 pub mod Table
 pub mod Reading
+pub mod Unread
 pub mod Walking
 pub mod Sizes
 pub mod Onto
 pub mod Found
+pub mod Ways
 pub mod Copied
 pub mod Lie
 pub mod LineLaws

@@ -73,7 +73,7 @@ all_sound (suc n) code at bytes h le =
     ⊎_elim
     (λ lt.
     let g = goes code at lt h in
-    subst (Each (IsSound row_of long)) (sym (rest_goes code at g.step g.stands h)) (step_sound code at g.step g.stands bytes, all_sound n code (at + g.step.instr.length) bytes g.whole (omega (arith, g.some))))
+    subst (Each (IsSound row_of long)) (sym (rest_goes code at g.step g.stands)) (step_sound code at g.step g.stands bytes, all_sound n code (at + g.step.instr.length) bytes g.whole (omega (arith, g.some))))
     (λ past. subst (Each (IsSound row_of long)) (sym (rest_ends code at past)) tt)
     (cases_lt at (length code))
 
@@ -85,7 +85,7 @@ end_is (suc n) code at bytes h le inside =
     let g = goes code at lt h in
     let z = sizes code at g.step g.stands bytes in
     let ih = end_is n code (at + g.step.instr.length) bytes g.whole (omega (arith, g.some)) g.inside in
-    ap (λ (is : List Instr). at + long_end (pieces is)) (rest_goes code at g.step g.stands h)
+    ap (λ (is : List Instr). at + long_end (pieces is)) (rest_goes code at g.step g.stands)
     ∙ omega (arith, z.long_is, ih))
     (λ past. ap (λ (is : List Instr). at + long_end (pieces is)) (rest_ends code at past) ∙ omega (arith, past, inside))
     (cases_lt at (length code))

@@ -4,6 +4,7 @@ use Rattle.std.specs.Prelude.{ℤ, unsigned_abs}
 use Rattle.assemblies.specs.Closed.{Each}
 use Rattle.std.specs.Option.{option_or}
 use Rattle.cil_opcodes.specs.Rows.{row_of}
+use Rattle.cil_code.proofs.Parts.{instruction_fits}
 use Rattle.image_form.specs.Codes.{Instr, size, instr_onto, instrs_onto, long, short}
 use Rattle.short_code.specs.Short.{short_end}
 use Rattle.short_code.specs.Pieces.{pieces}
@@ -19,6 +20,44 @@ use Rattle.code_shrink.proofs.Sizes.{sizes}
 use Rattle.code_shrink.proofs.Onto.{one_more}
 use Rattle.code_shrink.proofs.Targets.{many_are}
 
+-- an instruction of any code
+pub record AStep (code : List ℕ) (at : ℕ) (s : Step) : Type 0 where
+  pub some : 0 < s.instr.length
+  pub inside : at + s.instr.length ≤ length code
+  pub long_is : size long (instr_of code at s) ≡ s.instr.length
+  pub short_is : size short (instr_of code at s) ≡ s.instr.length - saved s.row.operand s.instr.operand
+  pub saves : saved s.row.operand s.instr.operand ≤ s.instr.length
+  pub rest_is : rest code at ≡ instr_of code at s ∷ rest code (at + s.instr.length)
+
+pub a_step : (code : List ℕ) (at : ℕ) (s : Step) → AreBytes code → IsStep code at s → AStep code at s
+a_step code at s bytes stands =
+    let fits = instruction_fits code at s.instr stands.stands in
+    let z = sizes code at s stands bytes in
+    record {
+      some = fits.0;
+      inside = fits.1;
+      long_is = z.long_is;
+      short_is = omega (arith, z.short_is);
+      saves = omega (arith, z.short_is);
+      rest_is = rest_goes code at s stands;
+    }
+
+-- starts that were listed
+pub listed : (code : List ℕ) (at : ℕ) (s : Step) (o : AStep code at s) (starts whole : List Start) (place : ℕ) → starts ++ starts_from at place (pieces (rest code at)) ≡ whole
+    → (starts ++ record { long = at; short = place } ∷ []) ++ starts_from (at + s.instr.length) (place + (s.instr.length - saved s.row.operand s.instr.operand)) (pieces (rest code (at + s.instr.length))) ≡ whole
+listed code at s o starts whole place h =
+    let is = rest code (at + s.instr.length) in
+    append_assoc starts (record { long = at; short = place } ∷ []) (starts_from (at + s.instr.length) (place + (s.instr.length - saved s.row.operand s.instr.operand)) (pieces is))
+    ∙ ap (λ (n : ℕ). starts ++ record { long = at; short = place } ∷ starts_from (at + n) (place + (s.instr.length - saved s.row.operand s.instr.operand)) (pieces is)) (sym o.long_is)
+    ∙ ap (λ (n : ℕ). starts ++ record { long = at; short = place } ∷ starts_from (at + size long (instr_of code at s)) (place + n) (pieces is)) (sym o.short_is)
+    ∙ ap (λ (js : List Instr). starts ++ starts_from at place (pieces js)) (sym o.rest_is)
+    ∙ h
+
+-- the last place, behind which nothing is read
+pub listed_all : (code : List ℕ) (at place : ℕ) (starts whole : List Start) → rest code at ≡ [] → starts ++ starts_from at place (pieces (rest code at)) ≡ whole → starts ++ record { long = at; short = place } ∷ [] ≡ whole
+listed_all code at place starts whole none h = ap (λ (js : List Instr). starts ++ starts_from at place (pieces js)) (sym none) ∙ h
+
+-- and one of code without faults
 pub record OnStep (code : List ℕ) (at : ℕ) (s : Step) : Type 0 where
   pub some : 0 < s.instr.length
   pub inside : at + s.instr.length ≤ length code
@@ -31,15 +70,15 @@ pub record OnStep (code : List ℕ) (at : ℕ) (s : Step) : Type 0 where
 pub on_step : (code : List ℕ) (at : ℕ) (s : Step) → AreBytes code → IsWhole code at → IsStep code at s → OnStep code at s
 on_step code at s bytes h stands =
     let g = goes_on code at s stands h in
-    let z = sizes code at s stands bytes in
+    let a = a_step code at s bytes stands in
     record {
       some = g.0;
       inside = g.1;
       whole = g.2;
-      long_is = z.long_is;
-      short_is = omega (arith, z.short_is);
-      saves = omega (arith, z.short_is);
-      rest_is = rest_goes code at s stands h;
+      long_is = a.long_is;
+      short_is = a.short_is;
+      saves = a.saves;
+      rest_is = a.rest_is;
     }
 
 module _ (code : List ℕ) (at : ℕ) (s : Step) (o : OnStep code at s) where
@@ -48,17 +87,6 @@ module _ (code : List ℕ) (at : ℕ) (s : Step) (o : OnStep code at s) where
   summed sum whole h =
       let e = ap (λ (is : List Instr). sum + short_end (pieces is)) o.rest_is in
       omega (arith, e, h, o.short_is)
-
-  -- starts that were listed
-  pub listed : (starts whole : List Start) (place : ℕ) → starts ++ starts_from at place (pieces (rest code at)) ≡ whole
-      → (starts ++ record { long = at; short = place } ∷ []) ++ starts_from (at + s.instr.length) (place + (s.instr.length - saved s.row.operand s.instr.operand)) (pieces (rest code (at + s.instr.length))) ≡ whole
-  listed starts whole place h =
-      let is = rest code (at + s.instr.length) in
-      append_assoc starts (record { long = at; short = place } ∷ []) (starts_from (at + s.instr.length) (place + (s.instr.length - saved s.row.operand s.instr.operand)) (pieces is))
-      ∙ ap (λ (n : ℕ). starts ++ record { long = at; short = place } ∷ starts_from (at + n) (place + (s.instr.length - saved s.row.operand s.instr.operand)) (pieces is)) (sym o.long_is)
-      ∙ ap (λ (n : ℕ). starts ++ record { long = at; short = place } ∷ starts_from (at + size long (instr_of code at s)) (place + n) (pieces is)) (sym o.short_is)
-      ∙ ap (λ (js : List Instr). starts ++ starts_from at place (pieces js)) (sym o.rest_is)
-      ∙ h
 
   -- each part of what is said of the instructions from here on
 

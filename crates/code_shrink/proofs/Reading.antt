@@ -32,7 +32,7 @@ num (suc k) code at = slice_index code at + 256 * num k code (at + 1)
 pub front : (code : List ℕ) (at : ℕ) → at < length code → drop at code ≡ slice_index code at ∷ drop (at + 1) code
 front code at lt = rw add-one (drop-cons code at 0 lt)
 
-number_at : (k : ℕ) (code : List ℕ) (at : ℕ) → at + suc k ≤ length code → read_number k (drop at code) ≡ Some (num k code at, drop (at + suc k) code)
+pub number_at : (k : ℕ) (code : List ℕ) (at : ℕ) → at + suc k ≤ length code → read_number k (drop at code) ≡ Some (num k code at, drop (at + suc k) code)
 unfolding num
 number_at zero code at le = ap (read_number zero) (front code at (omega arith))
 number_at (suc k) code at le =
@@ -80,6 +80,7 @@ chosen false x y z e = inr (refl, e)
 pub record IsOpcode (code : List ℕ) (at : ℕ) (o : Opcode) : Type 0 where
   pub read : read_opcode (drop at code) ≡ Some (o.op, drop (at + o.len) code)
   pub bytes : ((o.op ≡ slice_index code at) × (o.len ≡ 1)) ⊎ ((slice_index code at ≡ 254) × ((o.op ≡ 65024 + slice_index code (at + 1)) × (o.len ≡ 2)))
+  pub inside : at + o.len ≤ length code
 
 pub opcode_read : (code : List ℕ) (at : ℕ) (o : Opcode) → opcode_at code at ≡ Some o → IsOpcode code at o
 unfolding opcode_at
@@ -98,6 +99,7 @@ opcode_read code at o e =
                       subst (IsOpcode code at) is (record {
                         read = ap read_opcode (front code at (omega arith) ∙ ap (λ (l : List ℕ). slice_index code at ∷ l) (front code (at + 1) (omega arith))) ∙ two_read (slice_index code at) (slice_index code (at + 1)) (drop (at + 1 + 1) code) two.0 ∙ ap (λ (n : ℕ). Some (65024 + slice_index code (at + 1), drop n code)) (omega arith);
                         bytes = inr (eqb-true _ _ two.0, (refl, refl));
+                        inside = omega (arith, more);
                       })
                 ]
             | inr one ↦
@@ -105,6 +107,7 @@ opcode_read code at o e =
                 subst (IsOpcode code at) is (record {
                   read = ap read_opcode (front code at (omega arith)) ∙ one_read (slice_index code at) (drop (at + 1) code) one.0;
                   bytes = inl (refl, refl);
+                  inside = omega (arith, lt);
                 })
           ]
     ]

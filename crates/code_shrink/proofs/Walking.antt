@@ -17,6 +17,7 @@ use Rattle.code_shrink.specs.Shrunk.{instrs_in}
 use Rattle.code_shrink.specs.Steps.{IsStep, instr_of}
 use Rattle.code_shrink.specs.declared.step.Step.{Step}
 use Rattle.code_shrink.proofs.Reading.{read}
+use Rattle.code_shrink.proofs.Unread.{unread}
 
 -- a walk that comes to the end
 abbrev pub IsWhole : List ℕ → ℕ → Type 0
@@ -30,6 +31,12 @@ pub record Goes (code : List ℕ) (at : ℕ) : Type 0 where
   pub inside : at + step.instr.length ≤ length code
   pub whole : IsWhole code (at + step.instr.length)
 
+-- an instruction has a row of the table
+pub step_there : (code : List ℕ) (at : ℕ) (i : Instr) → instruction_at code at ≡ Ok i → (row : Row) × IsStep code at (record { row = row; instr = i })
+step_there code at i e =
+    let p = parts code at i e in
+    (p.row, record { stands = e; listed = ap row_of (ap (λ (j : Instr). j.op) p.made) ∙ p.listed })
+
 pub whole_behind : (code : List ℕ) (at : ℕ) (i : Instr) → instruction_at code at ≡ Ok i → IsWhole code at → IsWhole code (at + i.length)
 whole_behind code at i e h = sym (ap (λ (w : Walk). w.fault) (walk_goes code at i e)) ∙ h
 
@@ -38,11 +45,11 @@ goes code at lt h = by (instruction_at code at) refl where
   by : (r : Result Instr CodeFault) → instruction_at code at ≡ r → Goes code at
   by (Err fault) e = absurd (let f : Some fault ≡ None = sym (ap (λ (w : Walk). w.fault) (walk_fails code at fault lt e)) ∙ h in cc)
   by (Ok i) e =
-      let p = parts code at i e in
+      let there = step_there code at i e in
       let fits = instruction_fits code at i e in
       record {
-        step = record { row = p.row; instr = i };
-        stands = record { stands = e; listed = ap row_of (ap (λ (j : Instr). j.op) p.made) ∙ p.listed };
+        step = record { row = there.0; instr = i };
+        stands = there.1;
         some = fits.0;
         inside = fits.1;
         whole = whole_behind code at i e h;
@@ -65,31 +72,39 @@ none_left n code at le = ap (read_instrs row_of long n) (drop_of_length-le code 
   empty zero = refl
   empty (suc n) = refl
 
-enough : (m n : ℕ) (code : List ℕ) (at : ℕ) → IsWhole code at → length code ≤ at + m → length code ≤ at + n → read_instrs row_of long m (drop at code) ≡ read_instrs row_of long n (drop at code)
-enough zero n code at h p q = none_left zero code at (omega arith) ∙ sym (none_left n code at (omega arith))
-enough (suc m) zero code at h p q = none_left (suc m) code at (omega arith)
-enough (suc m) (suc n) code at h p q =
-    ⊎_elim
-    (λ lt.
-    let g = goes code at lt h in
-    here m code at g.step g.stands
-    ∙ ap (λ (is : List codes.Instr). instr_of code at g.step ∷ is) (enough m n code (at + g.step.instr.length) g.whole (omega (arith, g.some)) (omega (arith, g.some)))
-    ∙ sym (here n code at g.step g.stands))
-    (λ le. none_left (suc m) code at le ∙ sym (none_left (suc n) code at le))
-    (cases_lt at (length code))
+nothing_read : (n : ℕ) (code : List ℕ) (at : ℕ) (fault : CodeFault) → instruction_at code at ≡ Err fault → read_instrs row_of long n (drop at code) ≡ []
+nothing_read zero code at fault e = refl
+nothing_read (suc n) code at fault e = ap (λ o. met row_of long o (read_instrs row_of long n)) (unread code at fault e)
+
+enough : (m n : ℕ) (code : List ℕ) (at : ℕ) → length code ≤ at + m → length code ≤ at + n → read_instrs row_of long m (drop at code) ≡ read_instrs row_of long n (drop at code)
+enough zero n code at p q = none_left zero code at (omega arith) ∙ sym (none_left n code at (omega arith))
+enough (suc m) zero code at p q = none_left (suc m) code at (omega arith)
+enough (suc m) (suc n) code at p q = by (instruction_at code at) refl (λ next after. enough m n code next (omega (arith, after)) (omega (arith, after))) where
+  by : (r : Result Instr CodeFault) → instruction_at code at ≡ r → ((next : ℕ) → at < next → read_instrs row_of long m (drop next code) ≡ read_instrs row_of long n (drop next code)) → read_instrs row_of long (suc m) (drop at code) ≡ read_instrs row_of long (suc n) (drop at code)
+  by (Err fault) e behind = nothing_read (suc m) code at fault e ∙ sym (nothing_read (suc n) code at fault e)
+  by (Ok i) e behind =
+      let there = step_there code at i e in
+      let s : Step = record { row = there.0; instr = i } in
+      let fits = instruction_fits code at i e in
+      here m code at s there.1
+      ∙ ap (λ (is : List codes.Instr). instr_of code at s ∷ is) (behind (at + i.length) (omega (arith, fits.0)))
+      ∙ sym (here n code at s there.1)
 
 -- the instructions from a place on
 abbrev pub rest : List ℕ → ℕ → List codes.Instr
 rest code at = instrs_in (drop at code)
 
-pub rest_goes : (code : List ℕ) (at : ℕ) (s : Step) → IsStep code at s → IsWhole code at → rest code at ≡ instr_of code at s ∷ rest code (at + s.instr.length)
-rest_goes code at s stands h =
-    let g = goes_on code at s stands h in
+pub rest_goes : (code : List ℕ) (at : ℕ) (s : Step) → IsStep code at s → rest code at ≡ instr_of code at s ∷ rest code (at + s.instr.length)
+rest_goes code at s stands =
+    let fits = instruction_fits code at s.instr stands.stands in
     let long_enough = length-drop at code in
-    let more : length (drop at code) ≡ suc (length code - at - 1) = omega (arith, long_enough, g.0, g.1) in
+    let more : length (drop at code) ≡ suc (length code - at - 1) = omega (arith, long_enough, fits.0, fits.1) in
     ap (λ (n : ℕ). read_instrs row_of long n (drop at code)) more
     ∙ here (length code - at - 1) code at s stands
-    ∙ ap (λ (is : List codes.Instr). instr_of code at s ∷ is) (enough (length code - at - 1) (length (drop (at + s.instr.length) code)) code (at + s.instr.length) g.2 (omega (arith, g.0, g.1)) (omega (arith, length-drop (at + s.instr.length) code)))
+    ∙ ap (λ (is : List codes.Instr). instr_of code at s ∷ is) (enough (length code - at - 1) (length (drop (at + s.instr.length) code)) code (at + s.instr.length) (omega (arith, fits.0, fits.1)) (omega (arith, length-drop (at + s.instr.length) code)))
+
+pub rest_stops : (code : List ℕ) (at : ℕ) (fault : CodeFault) → instruction_at code at ≡ Err fault → rest code at ≡ []
+rest_stops code at fault e = nothing_read (length (drop at code)) code at fault e
 
 pub rest_ends : (code : List ℕ) (at : ℕ) → length code ≤ at → rest code at ≡ []
 rest_ends code at le = none_left (length (drop at code)) code at le
@@ -108,13 +123,14 @@ whole_of code e = by (walk_from code 0).fault _ e where
 
 -- ---- a step is there
 
+pub rest_some : (code : List ℕ) (at : ℕ) → at < length code → IsWhole code at → rest code at ≡ [] → ⊥
+rest_some code at lt h none =
+    let g = goes code at lt h in
+    let some : Path (List codes.Instr) [] (instr_of code at g.step ∷ rest code (at + g.step.instr.length)) = sym none ∙ rest_goes code at g.step g.stands in
+    cc
+
 pub row_there : (code : List ℕ) (at : ℕ) (i : Instr) → instruction_at code at ≡ Ok i → row_of i.op ≡ None → ⊥
 row_there code at i e none =
     let p = parts code at i e in
     let some : Path (Option Row) (Some p.row) None = sym p.listed ∙ ap row_of (sym (ap (λ (j : Instr). j.op) p.made)) ∙ none in
-    cc
-
-pub no_fault : (code : List ℕ) (at : ℕ) (fault : CodeFault) → at < length code → IsWhole code at → instruction_at code at ≡ Err fault → ⊥
-no_fault code at fault lt h e =
-    let some : Path (Option CodeFault) (Some fault) None = sym (ap (λ (w : Walk). w.fault) (walk_fails code at fault lt e)) ∙ h in
     cc

@@ -1,5 +1,5 @@
 -- Where the instructions of a file's code start in the shortened code.
-use Rattle.std.specs.Prelude.{◌≡◌, ℕ, ◌+◌, ◌<◌, nat_eq, if◌then◌else◌, List, [], ◌∷◌, Option, Some, None, slice_get}
+use Rattle.std.specs.Prelude.{◌≡◌, ℕ, ◌+◌, ◌-◌, ◌<◌, ◌≤◌, nat_eq, nat_lt, if◌then◌else◌, List, [], ◌∷◌, length, Option, Some, None, slice_get}
 use Rattle.std.specs.Option.{unwrap_or}
 use Rattle.machine_rename.specs.Places.{Piece}
 use Rattle.short_code.specs.Short.{to_short, IsBound}
@@ -24,9 +24,21 @@ abbrev pub starts_from : {A : Type 0} → ℕ → ℕ → List (Piece A) → Lis
 starts_from long short [] = record { long = long; short = short } ∷ []
 starts_from long short (x ∷ xs) = record { long = long; short = short } ∷ starts_from (long + x.long) (short + x.short) xs
 
+-- where a place of the file's code comes to lie: one inside an instruction at its start, and one behind the end as far behind it
+abbrev pub way : List Start → ℕ → ℕ
+way [] at = at
+way (s ∷ []) at = s.short + (at - s.long)
+way (s ∷ t ∷ ss) at = if nat_lt at t.long then s.short else way (t ∷ ss) at
+
 -- each start is behind those before it
 abbrev pub Rise : List Start → Type 0
 Rise starts = (i j : ℕ) (a b : Start) → i < j → slice_get starts i ≡ Some a → slice_get starts j ≡ Some b → a.long < b.long
+
+-- starts that tell a way
+pub record TellWay (starts : List Start) : Type 0 where
+  pub rise : Rise starts
+  pub some : 0 < length starts
+  pub shorter : (k : ℕ) (s : Start) → slice_get starts k ≡ Some s → s.short ≤ s.long
 
 -- they are those of the instructions and of the end, and no others
 pub record Pairs {A : Type 0} (xs : List (Piece A)) (starts : List Start) : Type 0 where

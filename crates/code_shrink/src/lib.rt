@@ -4,6 +4,7 @@
 mod distances;
 mod law;
 mod limits;
+mod places;
 mod refusal;
 mod renumber;
 mod size;
@@ -13,6 +14,7 @@ mod tiny;
 mod write;
 
 pub use law::{file_lines_are_read, lines_are_spelt, shrunk_code_is_read};
+pub use places::ShortPlaces;
 pub use refusal::ShrinkRefusal;
 pub use renumber::Renumber;
 pub use size::length;

@@ -1,8 +1,9 @@
 //! One instruction of code, with its row of the table.
 
-ghost use Rattle.std.specs.Prelude.{◌≡◌, ◌-◌, ◌^◌, ◌<◌, ◌≤◌, unsigned_abs, length, None};
+ghost use Rattle.std.specs.Prelude.{◌≡◌, ◌-◌, ◌^◌, ◌<◌, ◌≤◌, unsigned_abs, [], drop, length, IfSome, None};
 ghost use Rattle.cil_code.specs.Walk.{walk_from};
 ghost use Rattle.image_form.specs.Codes.{opcode_size};
+ghost use Rattle.code_shrink.specs.Shrunk.{instrs_in};
 ghost use Rattle.code_shrink.specs.Steps.{IsStep, saved};
 
 use cil_code::{Instr, instruction};
@@ -16,6 +17,19 @@ pub struct Step {
     pub instr: Instr,
 }
 
+/// The instruction at an offset of code; `None` exactly where none can be read there.
+pub fn next_step(code: &[u8], at: u32) -> Option<Step>
+    requires { length code.now < 2 ^ 32 }
+    ensures some { IfSome result (λ step. IsStep code.now at step) }
+    ensures none { result ≡ None → instrs_in (drop at code.now) ≡ [] }
+{
+    let Ok(instr) = instruction(code, at) else {
+        return None;
+    };
+    let row = row(instr.op)?;
+    Some(Step { row, instr })
+}
+
 /// The instruction at an offset of code, in which no rule of opcodes and ends is broken from there on.
 pub fn step_at(code: &[u8], at: u32) -> Step
     requires small { length code.now < 2 ^ 32 }
@@ -23,12 +37,9 @@ pub fn step_at(code: &[u8], at: u32) -> Step
     requires whole { (walk_from code.now at).fault ≡ None }
     ensures { IsStep code.now at result }
 {
-    match instruction(code, at) {
-        Ok(instr) => match row(instr.op) {
-            Some(row) => Step { row, instr },
-            None => unreachable!(),
-        },
-        Err(_) => unreachable!(),
+    match next_step(code, at) {
+        Some(step) => step,
+        None => unreachable!(),
     }
 }
 

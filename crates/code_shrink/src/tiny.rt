@@ -1,6 +1,6 @@
 //! The call.
 
-ghost use Rattle.std.specs.Prelude.{◌≡◌, length, IfOk, IfErr, OnOk, None};
+ghost use Rattle.std.specs.Prelude.{◌≡◌, ◌<◌, ◌^◌, length, IfOk, IfErr, OnOk, None};
 ghost use Rattle.code_shrink.specs.Limits.{far_in, wide_in, IsRefused};
 ghost use Rattle.code_shrink.specs.Shrunk.{CanShrink, pieces_of, shrunk_bytes};
 ghost use Rattle.code_shrink.specs.Starts.{Pairs, Rise, short_in};
@@ -57,14 +57,9 @@ impl Tiny {
     }
 }
 
-/// The shortened code of code that ends at `end`.
-fn shrink_code<N: Renumber>(
-    alloc: Global,
-    code: &[u8],
-    end: u32,
-    renumber: &N,
-) -> Result<Tiny, ShrinkRefusal>
-    requires end { end ≡ length code.now }
+/// The shortened code of code.
+fn shrink_code<N: Renumber>(alloc: Global, code: &[u8], renumber: &N) -> Result<Tiny, ShrinkRefusal>
+    requires small { length code.now < 2 ^ 32 }
     requires sound { CanShrink code.now }
     ensures near { OnOk result (far_in code.now ≡ None) }
     ensures few { OnOk result (wide_in code.now ≡ None) }
@@ -72,7 +67,7 @@ fn shrink_code<N: Renumber>(
     ensures places { IfOk result (λ tiny. Pairs (pieces_of code.now) tiny.starts) }
     ensures refused { IfErr result (λ refusal. IsRefused code.now refusal) }
 {
-    let starts = starts(alloc, code, end)?;
+    let starts = starts(alloc, code)?;
     if let Some(distance) = first_far(code, starts.as_slice()) {
         return Err(ShrinkRefusal::Branch { distance });
     }
@@ -98,5 +93,6 @@ pub fn shrink<N: Renumber>(alloc: Global, body: &Body, renumber: &N) -> Result<T
     ensures places { IfOk result (λ tiny. Pairs (pieces_of body.now.code) tiny.starts) }
     ensures refused { IfErr result (λ refusal. IsRefused body.now.code refusal) }
 {
-    shrink_code(alloc, body.code(), body.code_size(), renumber)
+    let _small = body.code_size();
+    shrink_code(alloc, body.code(), renumber)
 }

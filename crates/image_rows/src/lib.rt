@@ -1,7 +1,7 @@
 //! The rows of an image's tables that say what a file refers to, and of its specifications, each made of a row of the file that is kept.
 #![tactic(auto)]
 
-mod columns;
+pub mod columns;
 mod member_references;
 mod references;
 mod table;

@@ -8,9 +8,6 @@ use Rattle.code_shrink.proofs.Walking.{whole_of}
 use Rattle.code_shrink.proofs.Whole.{rise, paired, near, far_is, writes, bytes_are}
 use Rattle.code_shrink.proofs.tiny.shrink_code.Goals as goal
 
-pub starts-requires-clause-whole : goal.starts-requires-clause-whole
-starts-requires-clause-whole g c = whole_of c.args.code.now c.requires.sound.whole
-
 pub first_far-requires-clause-rise : goal.first_far-requires-clause-rise
 first_far-requires-clause-rise g c =
     rise c.args.code.now (λ k. (c.type_inv.code k).fits) c.requires.sound c.as_slice.result.now (c.as_slice.ensures.value ∙ c.in_ok-starts.ensures {u = tt})
@@ -20,7 +17,7 @@ first_far-requires-clause-whole g c = whole_of c.args.code.now c.requires.sound.
 
 pub first_far-requires-clause-near : goal.first_far-requires-clause-near
 first_far-requires-clause-near g c =
-    near c.args.code.now (λ k. (c.type_inv.code k).fits) c.requires.sound c.as_slice.result.now (c.as_slice.ensures.value ∙ c.in_ok-starts.ensures {u = tt}) (omega (arith, c.requires.end, c.ranges.end.fits))
+    near c.args.code.now (λ k. (c.type_inv.code k).fits) c.requires.sound c.as_slice.result.now (c.as_slice.ensures.value ∙ c.in_ok-starts.ensures {u = tt}) c.requires.small
 
 pub returns-in-Some-clause-refused : goal.returns-in-Some-clause-refused
 returns-in-Some-clause-refused g c =
@@ -47,7 +44,7 @@ bytes-requires-clause-whole g c = whole_of c.args.code.now c.requires.sound.whol
 pub bytes-requires-clause-can : goal.bytes-requires-clause-can
 bytes-requires-clause-can g c =
     writes c.args.code.now (λ k. (c.type_inv.code k).fits) c.requires.sound c.as_slice-2.result.now (c.as_slice-2.ensures.value ∙ c.in_ok-starts.ensures {u = tt})
-    (omega (arith, c.requires.end, c.ranges.end.fits))
+    c.requires.small
     (sym (far_is c.args.code.now (λ k. (c.type_inv.code k).fits) c.requires.sound c.as_slice.result.now (c.as_slice.ensures.value ∙ c.in_ok-starts.ensures {u = tt})) ∙ sym c.first_far.ensures ∙ c.in_default.is)
     (sym c.first_wide.ensures ∙ c.in_default-first_wide.is)
 

@@ -1,0 +1,6 @@
+mod WorldLaws
+mod TableLaws
+mod ClauseLaws
+mod NativeLaws
+mod MethodLaws
+mod ColumnLaws

@@ -1,0 +1,5 @@
+pub mod WalkLaws
+pub mod TokenLaws
+pub mod CodeLaws
+mod LiteralLaws
+mod TableLaws
