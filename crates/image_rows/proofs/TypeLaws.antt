@@ -4,7 +4,7 @@ use Rattle.std.specs.Prelude.{if◌then◌else◌, slice_get, slice_index, ◌==
 use Rattle.std.specs.List.{filter, flat_map}
 use Rattle.std.specs.Option.{option_map, option_map_or}
 use Rattle.std.proofs.lemmas.Bool.{eq-eqb, ne_eqb}
-use Rattle.std.proofs.lemmas.List.{map-append, length-map}
+use Rattle.std.proofs.lemmas.List.{map-append, append-nil, length-map}
 use Rattle.std.proofs.lemmas.Option.{slice_get_within}
 use Rattle.file_tables.specs.declared.schema.Coded.TheVariants.{TypeDefOrRef}
 use Rattle.file_tables.specs.Metadata.{MetadataPart, column_of, row_count, rows_of, token_row}
@@ -60,6 +60,16 @@ type_is kept m x extends next columns =
   where
     row_of : ℕ → ℕ → PartRow
     row_of first count = record { columns = Name x.namespace.now ∷ Name x.name.now ∷ map column_cut (numbers (type_numbers kept m x extends first count)) }
+
+module _ (kept : Masks) (m : MetadataPart) (xs : List ClassRow) (lists : List (List ℕ)) (first n : ℕ) where
+  abbrev made_of : ClassRow → List PartRow
+  made_of x = type_made kept first (type_with m x (column_of m type_defs (suc n) 3) (tokens_of m (get_or lists n []))) ∷ []
+
+  pub type_past : (out : List PartRow) → slice_get xs n ≡ None → out ≡ out ++ types_at kept m xs lists first n
+  type_past out e = sym (ap (λ o. out ++ option_map_or made_of o []) e ∙ append-nil out)
+
+  pub type_there : (x : ClassRow) → slice_get xs n ≡ Some x → types_at kept m xs lists first n ≡ made_of x
+  type_there x e = ap (λ o. option_map_or made_of o []) e
 
 -- ---- by the numbers of types
 

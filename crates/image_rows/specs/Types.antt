@@ -68,6 +68,9 @@ module _ (m : MetadataPart) where
   abbrev pub interfaces_read : List (List TypeToken)
   interfaces_read = numbered (λ n row. interfaces_of m n) 0 (rows_of m type_defs)
 
+abbrev pub flags_seen : ClassRow → ℕ
+flags_seen x = type_flags (kind_seen x.kind) x.is_interface x.is_abstract x.is_lazy
+
 module _ (kept : Masks) where
   -- ---- of one row
 
@@ -76,9 +79,6 @@ module _ (kept : Masks) where
 
   abbrev pub superclass_kept : MetadataPart → ℕ → ℕ
   superclass_kept m extends = or_none type_word (option_map (token_to (choice_of_rows kept)) (file.first_of (superclass_token m extends)))
-
-  abbrev pub flags_seen : ClassRow → ℕ
-  flags_seen x = type_flags (kind_seen x.kind) x.is_interface x.is_abstract x.is_lazy
 
   -- a range of members
   abbrev pub count_kept : Table → ℕ → ℕ → ℕ

@@ -10,6 +10,7 @@ pub mod law;
 mod member_references;
 mod references;
 mod table;
+mod types;
 mod walk;
 
 pub use assembly::{ImageHeader, header};
@@ -17,3 +18,4 @@ pub use fields::{data_parts, field_parts};
 pub use interfaces::interface_parts;
 pub use member_references::{field_reference_parts, method_reference_parts};
 pub use references::{assembly_parts, reference_parts, spec_parts};
+pub use types::type_parts;
