@@ -36,11 +36,11 @@ pub fn number(number: u64) -> Column
 }
 
 /// Adds numbers.
-pub fn push_numbers(columns: &mut Vec<Column>, these: &[u32]) -> Result<(), NoMemory>
+pub fn push_numbers(columns: &mut Vec<Column>, these: &[u64]) -> Result<(), NoMemory>
     ensures { OnOk result (columns.new.items ≡ columns.old.items ++ map column_cut (numbers these.now)) }
 {
     for of in these {
-        columns.push(number(u64::from(*of)))?;
+        columns.push(number(*of))?;
     }
     Ok(())
 }

@@ -1,10 +1,25 @@
-//! The rows of an image's tables that say what a file refers to, and of its specifications, each made of a row of the file that is kept.
+//! The rows of an image's tables, each made of rows of the file that are kept: what a file refers to, its specifications, its types with
+//! their interfaces, and its fields with their data; and its header.
 #![tactic(auto)]
 
+<<<<<<< HEAD
 pub mod columns;
+=======
+mod assembly;
+mod columns;
+mod fields;
+mod interfaces;
+pub mod law;
+>>>>>>> 1d538dfa776567caaf54a75770c08a07bd741e27
 mod member_references;
 mod references;
 mod table;
+mod types;
+mod walk;
 
+pub use assembly::{ImageHeader, header};
+pub use fields::{data_parts, field_parts};
+pub use interfaces::interface_parts;
 pub use member_references::{field_reference_parts, method_reference_parts};
 pub use references::{assembly_parts, reference_parts, spec_parts};
+pub use types::type_parts;

@@ -40,10 +40,10 @@ impl<'t, 'a> TableParts for Assemblies<'t, 'a> {
         let _few = self.tables.rows(ASSEMBLY_REF);
         let row: AssemblyRefRow = read_row(self.tables, n + 1);
         let version = [
-            row.major_version,
-            row.minor_version,
-            row.build_number,
-            row.revision_number,
+            u64::from(row.major_version),
+            u64::from(row.minor_version),
+            u64::from(row.build_number),
+            u64::from(row.revision_number),
         ];
         let mut columns = Vec::with_capacity(alloc, 5)?;
         columns.push(name(alloc, self.tables, row.name)?)?;

@@ -8,4 +8,5 @@ mod words;
 
 pub use signatures::{field_bytes, locals_bytes, method_bytes, spec_bytes};
 pub use tokens::type_word;
+pub use types::element_byte;
 pub use words::two_bytes;

@@ -17,7 +17,7 @@ use plain_types::fault::NoMemory;
 use type_names::split;
 
 /// The byte of an element (ECMA-335 II.23.1.16).
-fn element_byte(elem: Elem) -> u8
+pub fn element_byte(elem: Elem) -> u8
     ensures { result ≡ elem_byte elem }
 {
     match elem {

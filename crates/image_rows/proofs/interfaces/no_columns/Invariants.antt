@@ -1,0 +1,8 @@
+use Rattle.std.proofs.Common.{◌≡◌, ℕ, [], length, map, get_or}
+use Rattle.image_rows.proofs.interfaces.no_columns.Given as goal
+
+abbrev pub invariant-loop-n : goal.invariant-loop-n
+invariant-loop-n l = record {
+  size : length (map (λ list. list.items) l.lists.items) ≡ l._n;
+  empty : (n : ℕ) → get_or (map (λ list. list.items) l.lists.items) n [] ≡ [];
+}
