@@ -2,15 +2,11 @@
 //! their interfaces, and its fields with their data; and its header.
 #![tactic(auto)]
 
-<<<<<<< HEAD
-pub mod columns;
-=======
 mod assembly;
-mod columns;
+pub mod columns;
 mod fields;
 mod interfaces;
 pub mod law;
->>>>>>> 1d538dfa776567caaf54a75770c08a07bd741e27
 mod member_references;
 mod references;
 mod table;
