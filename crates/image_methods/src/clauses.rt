@@ -53,10 +53,10 @@ fn clause_part(
 {
     let [kind, class] = kind_numbers(choice, tables, clause);
     let regions = [
-        places.short(clause.try_start),
-        places.short(clause.try_end),
-        places.short(clause.start),
-        places.short(clause.end),
+        u64::from(places.short(clause.try_start)),
+        u64::from(places.short(clause.try_end)),
+        u64::from(places.short(clause.start)),
+        u64::from(places.short(clause.end)),
     ];
     let mut columns = Vec::with_capacity(alloc, 6)?;
     columns.push(number(kind))?;

@@ -111,7 +111,7 @@ fn locals(
 fn push_without_code(columns: &mut Vec<Column>, start: u32) -> Result<(), NoMemory>
     ensures { OnOk result (columns.new.items ≡ columns.old.items ++ map column_cut (numbers (start ∷ 0 ∷ 65535 ∷ 0 ∷ 0 ∷ 0 ∷ []))) }
 {
-    push_numbers(columns, &[start, 0, NONE, 0, 0, 0])
+    push_numbers(columns, &[u64::from(start), 0, u64::from(NONE), 0, 0, 0])
 }
 
 /// Where a range begins; one without rows begins at 0.
