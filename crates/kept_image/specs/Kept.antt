@@ -1,14 +1,18 @@
 -- When parts are those of a file's kept rows, and which limit is told of them.
-use Rattle.std.specs.Prelude.{◌≡◌, ℕ, Bool, List, Option, Some, None, slice_get}
+use Rattle.std.specs.Prelude.{◌≡◌, ℕ, ◌<◌, Bool, List, Option, Some, None, slice_get}
 use Rattle.std.specs.Option.{option_map}
 use Rattle.plain_types.specs.declared.fault.Limit.{Limit}
 use Rattle.file_tables.specs.File.{FilePart}
 use Rattle.assemblies.specs.Rows.{Assembly}
+use Rattle.assemblies.specs.Closed.{Each}
 use Rattle.kept_closure.specs.Kept.{HasNamed}
 use Rattle.world_rows.specs.World.{assemblies_of}
 use Rattle.rows_resolved.specs.Resolved.{IsAccepted}
 use Rattle.row_numbers.specs.Tables.{AreCounts}
 use Rattle.kept_marks.specs.Masks.{InFile}
+use Rattle.msspot_write.specs.declared.parts.Column.{Column}
+use Rattle.msspot_write.specs.declared.parts.Column.TheVariants.{Signature}
+use Rattle.msspot_write.specs.declared.parts.PartRow.{PartRow}
 use Rattle.msspot_write.specs.declared.parts.Parts.{Parts}
 use Rattle.msspot_write.specs.Parts.{over_of_parts}
 use Rattle.converted.specs.Choosing.{choice_of}
@@ -17,6 +21,14 @@ use Rattle.converted.specs.Over.{limit_in, over_counts}
 use Rattle.image_codes.specs.Bytes.{HasBytes}
 use Rattle.kept_image.specs.declared.refusal.ImageRefusal.{ImageRefusal}
 use Rattle.kept_image.specs.declared.refusal.ImageRefusal.TheVariants as refusals
+
+-- each byte of a signature is there whole
+abbrev pub SignatureFits : Column → Type 0
+SignatureFits (Signature bytes) = Each (λ b. b < 256) bytes
+SignatureFits _ = Unit {0}
+
+abbrev pub SignaturesFit : Parts → Type 0
+SignaturesFit p = Each (λ (rows : List PartRow). Each (λ (r : PartRow). Each SignatureFits r.columns) rows) p.tables
 
 -- where numbers are cut no limit changes, and within the limits 0 to 14 of the image none is cut
 pub record CutsOnlyPastLimits (files : List FilePart) (marks : List Bool) (f : ℕ) (x : FilePart) (p : Assembly) : Type 0 where

@@ -6,19 +6,26 @@ ghost use Rattle.std.specs.Option.{option_or};
 ghost use Rattle.file_tables.specs.File.{FilePart};
 ghost use Rattle.assemblies.specs.Rows.{Assembly};
 ghost use Rattle.kept_marks.specs.Masks.{InFile, masks_of};
+ghost use Rattle.image_bytes.specs.Layout.{counts_of};
 ghost use Rattle.msspot_write.specs.declared.parts.Parts.{Parts};
-ghost use Rattle.msspot_write.specs.Parts.{image_of_parts, over_of_parts, pools_of};
+ghost use Rattle.msspot_write.specs.Parts.{first_over, image_of_parts, over_of_parts, pools_of};
 ghost use Rattle.code_shrink.specs.Shrunk.{shrunk_bytes};
-ghost use Rattle.converted.specs.Images.{image_at};
+ghost use Rattle.converted.specs.Images.{image_at, parts_cut};
 ghost use Rattle.converted.specs.Over.{over_at, over_distances, over_switches};
 ghost use Rattle.image_numbers.specs.Numbers.{InImage, token_number};
 ghost use Rattle.image_codes.specs.Codes.{codes_of_kept, short_lengths};
-ghost use Rattle.kept_image.specs.Kept.{IsKeptFile, of_file};
+ghost use Rattle.kept_image.specs.Kept.{IsKeptFile, SignaturesFit, of_file};
 
 use converted::law::{kept_parts_are_laid, limits_go_by_bytes, parts_that_fit_stay};
 use image_codes::law::{
     codes_are_those_of_marks, lengths_are_those_of_codes, shrunk_codes_are_laid,
 };
+
+/// Where no table has too many rows, or else one of the limits 0 to 10 is passed anyhow, it is enough that the bytes of signatures are there
+/// whole: numbers that are cut change none of the limits 0 to 14.
+pub fn limits_stay_where_signatures_fit()
+    ensures { (p : Parts) (codes : List (List ℕ)) → (first_over 0 (counts_of (image_of_parts p codes)) ≡ None → SignaturesFit p) → over_of_parts (parts_cut p) codes ≡ over_of_parts p codes }
+{}
 
 /// The first limit that a file's kept rows pass is that of their parts with codes of as many bytes, and then that of the codes.
 pub fn limits_are_those_of_parts()
