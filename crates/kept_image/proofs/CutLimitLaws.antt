@@ -1,5 +1,5 @@
 -- The limits of parts stay where numbers are cut, if the bytes of their signatures stay.
-use Rattle.std.proofs.Common.{◌≡◌, ◌∙◌, ℕ, zero, suc, ◌+◌, ◌<◌, Bool, true, false, List, [], ◌∷◌, ◌++◌, map, length, Option, Some, None, refl, sym, ap, subst}
+use Rattle.std.proofs.Common.{◌≡◌, ◌∙◌, ℕ, zero, suc, ◌+◌, ◌<◌, Bool, true, false, List, [], ◌∷◌, ◌++◌, map, length, Option, Some, None, refl, sym, ap}
 use Rattle.std.specs.Prelude.{nat_lt, if◌then◌else◌, slice_get, unwrap_or}
 use Rattle.std.specs.List.{flat_map}
 use Rattle.std.specs.Option.{option_map}
@@ -7,15 +7,15 @@ use Rattle.std.proofs.lemmas.Option.{slice_get-map}
 use Rattle.std.proofs.Math.Nat.{mod-eq_of_lt}
 use Rattle.plain_types.specs.declared.fault.Limit.{Limit}
 use Rattle.assemblies.specs.Closed.{Each}
-use Rattle.image_bytes.specs.Layout.{counts_of, lengths_of}
-use Rattle.image_pools.specs.Pools.{Entry, pool, pool_onto}
+use Rattle.image_bytes.specs.Layout.{counts_of}
+use Rattle.image_pools.specs.Pools.{pool, pool_onto}
 use Rattle.image_form.specs.Whole.{name_entry, signature_entry}
 use Rattle.msspot_write.specs.declared.parts.Column.{Column}
 use Rattle.msspot_write.specs.declared.parts.Column.TheVariants.{Number, Name, Signature, Data, Code}
 use Rattle.msspot_write.specs.declared.parts.PartRow.{PartRow}
 use Rattle.msspot_write.specs.declared.parts.PartLiteral.{PartLiteral}
 use Rattle.msspot_write.specs.declared.parts.Parts.{Parts}
-use Rattle.msspot_write.specs.Parts.{PoolsOf, rows_of, tables, in_row, in_rows, in_tables, names, signatures, data_bytes, literal_of, pools_of, image_of_parts, most, first_over, over_of_parts}
+use Rattle.msspot_write.specs.Parts.{PoolsOf, rows_of, tables, in_rows, in_tables, names, signatures, data_bytes, literal_of, pools_of, image_of_parts, most, first_over, over_of_parts}
 use Rattle.converted.specs.Cut.{one_byte}
 use Rattle.converted.specs.Images.{column_cut, row_cut, parts_cut}
 use Rattle.converted.proofs.CutLaws.{counts_stay}
