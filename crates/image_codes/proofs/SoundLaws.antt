@@ -57,7 +57,7 @@ module _ (code : List ℕ) (bytes : AreBytes code) (short : length code < 214748
       let next = at + s.instr.length in
       let among : (nat_eq at m || is_among (map (λ (p : Placed). p.at) (placed code next)) m) ≡ true = sym (ap (λ ps. is_among (map (λ (p : Placed). p.at) ps) m) (placed_goes code at s.instr g.stands.stands)) ∙ e in
       let long_is = (sizes code at s g.stands bytes).long_is in
-      let is = instrs_go code at s g.stands h in
+      let is = instrs_go code at s g.stands in
       here at m s long_is is (λ later. bound_from n next m g.whole (omega (arith, le, g.some)) later) (nat_eq at m) refl among)
       (λ past. absurd (let none = ap (λ ps. is_among (map (λ (p : Placed). p.at) ps) m) (past_end code at past).none in cc (e, none)))
       (cases_lt at (length code))
@@ -126,7 +126,7 @@ module _ (code : List ℕ) (bytes : AreBytes code) (short : length code < 214748
       let later = targets_from n next g.whole (omega (arith, le, g.some)) all.1 in
       let size_is : next ≡ at + size long (instr_of code at s) = ap (λ k. at + k) (sym (sizes code at s g.stands bytes).long_is) in
       let both : AreTargets (pieces_of code) at (instr_of code at s ∷ instrs code next) = subst (λ k. Each (IsTarget (pieces_of code)) (targets_of s.row.operand k (plain_at code at s.row.operand s.instr.operand)) × AreTargets (pieces_of code) k (instrs code next)) size_is (first, later) in
-      subst (AreTargets (pieces_of code) at) (sym (instrs_go code at s g.stands h)) both)
+      subst (AreTargets (pieces_of code) at) (sym (instrs_go code at s g.stands)) both)
       (λ past. subst (AreTargets (pieces_of code) at) (sym (rest_ends code at past)) tt)
       (cases_lt at (length code))
 
