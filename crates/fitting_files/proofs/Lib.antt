@@ -1,0 +1,5 @@
+mod SignatureLaws
+mod HeaderLaws
+mod PlaceLaws
+mod FewLaws
+mod FileLaws
