@@ -14,10 +14,10 @@ use row_rules::RowPlace;
 use type_names::split_token;
 
 /// The number of the first file behind the base library's.
-const FIRST_USER_FILE: u16 = 2;
+pub const FIRST_USER_FILE: u16 = 2;
 
-/// The row of methods, from 0, that an entry token names.
-fn entry_row(token: u32) -> Option<u32>
+/// The row of methods, from 0, that an entry token names (ECMA-335 II.25.3.3); `None` for a token of another table, and for row 0.
+pub fn entry_row(token: u32) -> Option<u32>
     ensures { result ≡ entry_named token }
 {
     let named = split_token(token);

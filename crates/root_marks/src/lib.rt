@@ -6,4 +6,5 @@ pub mod law;
 mod marks;
 mod named;
 
+pub use entries::{FIRST_USER_FILE, entry_row};
 pub use marks::mark_roots;

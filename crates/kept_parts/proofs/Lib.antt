@@ -1,0 +1,3 @@
+mod PlaceLaws
+mod CountLaws
+mod PartLaws
