@@ -1,13 +1,13 @@
 -- What an accepted file tells by numbers is small in the image of its kept rows, and so all numbers of that have two bytes.
 use Rattle.std.proofs.Common.{◌≡◌, ℕ, zero, suc, ◌≤◌, Bool, true, false, List, [], ◌∷◌, ◌++◌, map, length, Option, Some, None, refl, sym, ap, ◌∙◌, subst, arith}
-use Rattle.std.specs.Prelude.{◌==◌, if◌then◌else◌, slice_get, slice_index, unwrap_or}
+use Rattle.std.specs.Prelude.{if◌then◌else◌, slice_get, slice_index, unwrap_or}
 use Rattle.std.specs.List.{filter, flat_map, sum_by}
 use Rattle.std.specs.Option.{option_map}
 use Rattle.std.proofs.lemmas.List.{length-map}
 use Rattle.std.proofs.lemmas.List.Sums.{sum_by-cons}
 use Rattle.std.proofs.lemmas.Option.{slice_get-map}
 use Rattle.cil_code.specs.Bodies.{BodyPart}
-use Rattle.file_tables.specs.Metadata.{rows_of, column_of}
+use Rattle.file_tables.specs.Metadata.{rows_of}
 use Rattle.file_tables.specs.File.{FilePart}
 use Rattle.machine.specs.Throw.{on_some}
 use Rattle.kept_rows.specs.Select.{select}
@@ -20,9 +20,8 @@ use Rattle.image_form.specs.Form.{Manner, bytes_in}
 use Rattle.image_form.specs.Whole.{Methods, offsets}
 use Rattle.chosen_image.specs.Spells.{chosen_methods}
 use Rattle.short_code.specs.Short.{to_short, short_end}
-use Rattle.world_rows.specs.Tokens.{methods, number_of, assembly_refs, member_refs, locals_signatures, is_method_ref, bytes_at}
-use Rattle.world_rows.specs.Signatures.{locals_signature}
-use Rattle.world_rows.specs.Lines.{raw_code, locals_of}
+use Rattle.world_rows.specs.Tokens.{methods, assembly_refs, member_refs, is_method_ref, bytes_at}
+use Rattle.world_rows.specs.Lines.{raw_code}
 use Rattle.world_rows.specs.Rows.{assembly_ref, method_ref, method_row, code_of, version_at}
 use Rattle.world_rows.specs.World.{assemblies_of}
 use Rattle.verdict_laws.proofs.Rows.{native, from_zero}
@@ -48,14 +47,14 @@ use Rattle.fitting_parts.specs.Small.{IsSmall}
 use Rattle.fitting_parts.specs.Kept.{ClauseLiesNear, CodeNumbersSmall, MethodNumbersSmall, FileNumbersSmall}
 use Rattle.fitting_parts.proofs.RowLaws.{small_fits}
 use Rattle.fitting_parts.proofs.KeptLaws.{has_small_numbers}
-use Rattle.fitting_files.proofs.SignatureLaws.{parameters_small, locals_small}
+use Rattle.fitting_files.proofs.SignatureLaws.{parameters_small, body_locals_small}
 use Rattle.fitting_files.proofs.HeaderLaws.{LieIn, stack_small, versions_small}
 use Rattle.fitting_files.proofs.PlaceLaws.{clauses_near}
 use Rattle.fitting_files.proofs.FewLaws.{file_is, are_there, same_methods, are_few}
 
 -- ---- lists
 
-made : {A B : Type 0} (P : B → Type 0) (f : A → B) → ((x : A) → P (f x)) → (xs : List A) → Each P (map f xs)
+pub made : {A B : Type 0} (P : B → Type 0) (f : A → B) → ((x : A) → P (f x)) → (xs : List A) → Each P (map f xs)
 made P f h [] = tt
 made P f h (x ∷ xs) = (h x, made P f h xs)
 
@@ -165,18 +164,11 @@ module _ (files : List FilePart) (marks : List Bool) (f : ℕ) (x : FilePart) (p
         ap (λ o. unwrap_or (on_some o (λ y. slice_get (codes_of y) n)) []) there
         ∙ ap (λ o. unwrap_or o []) code_there
 
-    few_locals : IsSmall (length (locals_of x.metadata b.locals_token))
-    few_locals = by (b.locals_token == 0)
-      where
-        by : (c : Bool) → IsSmall (length (if c then [] else locals_signature x.metadata (bytes_at x.metadata (column_of x.metadata locals_signatures (number_of b.locals_token) 0))))
-        by true = omega arith
-        by false = locals_small x.metadata _
-
     body_numbers : CodeNumbersSmall ((choice_of files marks f).short n) (raw_code x.metadata b)
     body_numbers =
         let named = names n row b here kept is in
         record {
-          locals = few_locals;
+          locals = body_locals_small x.metadata b.locals_token;
           max_stack = stack_small x row b has.bytes is;
           clauses = subst (λ (code : List ℕ). Each (ClauseLiesNear (λ at. to_short (pieces_of code) at)) (raw_code x.metadata b).clauses) (sym code_found) (clauses_near files f n x b (bodies files accepted f n x row b there here is) named.bytes named.sound.whole one_short);
         }

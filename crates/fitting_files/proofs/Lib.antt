@@ -1,5 +1,5 @@
-mod SignatureLaws
+pub mod SignatureLaws
 mod HeaderLaws
 mod PlaceLaws
-mod FewLaws
-mod FileLaws
+pub mod FewLaws
+pub mod FileLaws

@@ -1,7 +1,8 @@
 -- Signatures have no more parameters and locals than two bytes count (II.23.2.1, II.23.2.6).
-use Rattle.std.proofs.Common.{◌≡◌, ℕ, zero, suc, ◌≤◌, List, [], ◌∷◌, length, Ok, Err, refl, ap, subst, arith}
+use Rattle.std.proofs.Common.{◌≡◌, ℕ, zero, suc, ◌≤◌, Bool, true, false, List, [], ◌∷◌, length, Ok, Err, refl, ap, subst, arith}
+use Rattle.std.specs.Prelude.{◌==◌, if◌then◌else◌}
 use Rattle.std.proofs.lemmas.List.{length-map}
-use Rattle.file_tables.specs.Metadata.{MetadataPart}
+use Rattle.file_tables.specs.Metadata.{MetadataPart, column_of}
 use Rattle.cil_sig.specs.declared.elements.TheConstants.{LOCALS}
 use Rattle.cil_sig.specs.declared.sig.SigType.{SigType}
 use Rattle.cil_sig.specs.declared.sig.MethodSig.{MethodSig}
@@ -10,6 +11,8 @@ use Rattle.cil_sig.specs.declared.reading.Slot.TheVariants.{Parameter, Local}
 use Rattle.cil_sig.specs.Reading.{◌>>=◌, Part, count_at, slot_at, slots_at, result_at, this_at, behind, alone, whole_locals, whole_method}
 use Rattle.cil_sig.proofs.Numbers.{bind_ok, ok_is, count_takes}
 use Rattle.world_rows.specs.Signatures.{raw_type, raw_place, signature_from, locals_from, method_signature, locals_signature}
+use Rattle.world_rows.specs.Tokens.{number_of, locals_signatures, bytes_at}
+use Rattle.world_rows.specs.Lines.{locals_of}
 use Rattle.fitting_parts.specs.Small.{IsSmall}
 
 -- as many types as are counted
@@ -73,3 +76,11 @@ locals_small m blob = by (whole_locals blob) refl
         let same = length-map ss (raw_type m) in
         omega (arith, few, same)
     by (Err left) e = omega arith
+
+-- of a body; none where it has no locals' token
+pub body_locals_small : (m : MetadataPart) (token : ℕ) → IsSmall (length (locals_of m token))
+body_locals_small m token = by (token == 0)
+  where
+    by : (c : Bool) → IsSmall (length (if c then [] else locals_signature m (bytes_at m (column_of m locals_signatures (number_of token) 0))))
+    by true = omega arith
+    by false = locals_small m _

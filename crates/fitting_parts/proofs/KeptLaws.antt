@@ -5,11 +5,11 @@ use Rattle.std.specs.List.{flat_map}
 use Rattle.std.specs.Option.{option_map}
 use Rattle.std.proofs.lemmas.Option.{slice_get-map}
 use Rattle.kept_rows.specs.Select.{select, below, behind}
-use Rattle.assemblies.specs.Rows.{TypeToken, TypeDef, TypeRef, TypeSpec, Scope, OfAssembly, Inside, Nowhere, RawType, RawSpelt, RawClass, RawValue, RawArray, RawPlace, RawDirect, RawByRef, RawSignature, RawKind, RawCatch, RawFinally, RawOther, RawClause, RawCode, AssemblyRow, TypeRefRow, FieldRefRow, MethodRefRow, TypeRow, FieldRow, MethodRow, Assembly}
+use Rattle.assemblies.specs.Rows.{TypeToken, Scope, OfAssembly, Inside, Nowhere, RawType, RawSignature, RawKind, RawCatch, RawFinally, RawOther, RawClause, RawCode, AssemblyRow, TypeRefRow, FieldRefRow, MethodRefRow, TypeRow, FieldRow, MethodRow, Assembly}
 use Rattle.assemblies.specs.Binding.{numbered}
-use Rattle.assemblies.specs.Chosen.{Choice, first_of, token_to, scope_to, raw_to, place_to, signature_to, ref_to, field_ref_to, method_ref_to, type_row_to, field_row_to, kind_to, clause_to, code_to, method_row_to, chosen}
+use Rattle.assemblies.specs.Chosen.{Choice, first_of, token_to, scope_to, raw_to, signature_to, ref_to, field_ref_to, method_ref_to, type_row_to, field_row_to, kind_to, clause_to, code_to, method_row_to, chosen}
 use Rattle.assemblies.specs.Closed.{Each}
-use Rattle.kept_closure.specs.Named.{InOption, InType, InPlace, InSignature, InKind, InClause, InCode}
+use Rattle.kept_closure.specs.Named.{InOption, InType, InSignature, InKind, InClause, InCode}
 use Rattle.kept_closure.specs.Kept.{HasType, HasScope, HasMethod, HasField, HasNamed}
 use Rattle.image_form.specs.Form.{Manner, clauses_in}
 use Rattle.image_form.specs.Whole.{Methods}
@@ -18,10 +18,12 @@ use Rattle.image_form.proofs.ChoiceLaws.{selected_count, kept_below}
 use Rattle.chosen_image.specs.Spells.{OfKept, chosen_method, chosen_methods}
 use Rattle.fitting_parts.specs.Small.{IsSmall, ScopeIsSmall, RawIsSmall, SignatureIsSmall, KindIsSmall, ClauseIsSmall, CodeIsSmall, FieldRefIsSmall, MethodRefIsSmall, TypeRowIsSmall, MethodIsSmall, HasSmallNumbers}
 use Rattle.fitting_parts.specs.Kept.{AreThere, AreFew, ClauseLiesNear, CodeNumbersSmall, FileNumbersSmall}
+use Rattle.fitting_parts.proofs.TokenLaws.{each_to, in_mapped, mapped_small, TypesAreFew}
+use Rattle.fitting_parts.proofs.TokenLaws as tokens
 
 -- ---- facts on each of a list
 
-each_chosen : {A B : Type 0} (Q : B → Type 0) (f : A → B) (keep : ℕ → Bool) (xs : List A) → OfKept keep xs (λ x. Q (f x)) → Each Q (map f (select keep xs))
+pub each_chosen : {A B : Type 0} (Q : B → Type 0) (f : A → B) (keep : ℕ → Bool) (xs : List A) → OfKept keep xs (λ x. Q (f x)) → Each Q (map f (select keep xs))
 each_chosen Q f keep [] h = tt
 each_chosen Q f keep (x ∷ xs) h = go (keep 0) refl (each_chosen Q f (λ k. keep (suc k)) xs (λ n y at k. h (suc n) y at k))
   where
@@ -37,7 +39,7 @@ each_selected P keep (x ∷ xs) h = go (keep 0) (each_selected P (λ k. keep (su
     go true r = (h.0, r)
     go false r = r
 
-each_at : {A : Type 0} (P : A → Type 0) (xs : List A) (n : ℕ) (x : A) → Each P xs → slice_get xs n ≡ Some x → P x
+pub each_at : {A : Type 0} (P : A → Type 0) (xs : List A) (n : ℕ) (x : A) → Each P xs → slice_get xs n ≡ Some x → P x
 each_at P [] n x h at = absurd (cc at)
 each_at P (y ∷ xs) zero x h at = let same : y ≡ x = cc at in subst P same h.0
 each_at P (y ∷ xs) (suc n) x h at = each_at P xs n x h.1 at
@@ -51,12 +53,8 @@ each_numbered P make from keep (x ∷ xs) h =
     go true e r = let sum : from + 0 ≡ from = omega arith in (subst (λ j. P (make j x)) sum (h 0 x refl e), r)
     go false e r = r
 
-each_from_first : {A B : Type 0} (P : B → Type 0) (make : ℕ → A → B) (keep : ℕ → Bool) (xs : List A) → ((n : ℕ) (x : A) → slice_get xs n ≡ Some x → keep n ≡ true → P (make n x)) → Each P (select keep (numbered make 0 xs))
+pub each_from_first : {A B : Type 0} (P : B → Type 0) (make : ℕ → A → B) (keep : ℕ → Bool) (xs : List A) → ((n : ℕ) (x : A) → slice_get xs n ≡ Some x → keep n ≡ true → P (make n x)) → Each P (select keep (numbered make 0 xs))
 each_from_first P make keep xs h = each_numbered P make 0 keep xs (λ n x at e. let sum : n ≡ 0 + n = omega arith in subst (λ j. P (make j x)) sum (h n x at e))
-
-each_to : {A B : Type 0} (P : A → Type 0) (R : B → Type 0) (f : A → B) → ((x : A) → P x → R (f x)) → (xs : List A) → Each P xs → Each R (map f xs)
-each_to P R f h [] p = tt
-each_to P R f h (x ∷ xs) p = (h x p.0, each_to P R f h xs p.1)
 
 each_two_to : {A B : Type 0} (P Q : A → Type 0) (R : B → Type 0) (f : A → B) → ((x : A) → P x → Q x → R (f x)) → (xs : List A) → Each P xs → Each Q xs → Each R (map f xs)
 each_two_to P Q R f h [] p q = tt
@@ -69,10 +67,6 @@ each_behind P (x ∷ xs) ys h g = (h.0, each_behind P xs ys h.1 g)
 each_joined : {A B : Type 0} (P : B → Type 0) (f : A → List B) (xs : List A) → Each (λ x. Each P (f x)) xs → Each P (flat_map f xs)
 each_joined P f [] h = tt
 each_joined P f (x ∷ xs) h = each_behind P (f x) (flat_map f xs) h.0 (each_joined P f xs h.1)
-
-in_mapped : {A B : Type 0} (P : A → Type 0) (R : B → Type 0) (f : A → B) → ((x : A) → P x → R (f x)) → (o : Option A) → InOption P o → InOption R (option_map f o)
-in_mapped P R f h None p = tt
-in_mapped P R f h (Some x) p = h x p
 
 -- ---- how many are kept of the first rows
 
@@ -128,39 +122,22 @@ module _ (ps : List Assembly) (keep : ℕ → Choice) (f : ℕ) (p : Assembly) (
 
   -- ---- tokens
 
+  types_are_few : TypesAreFew k p
+  types_are_few = record { types = few.types; refs = few.refs; specs = few.specs }
+
   token_small : (t : TypeToken) → Has t → TypeIsSmall (token_to k t)
-  token_small (TypeDef n) h = omega (arith, kept_below k.types p.types n (there.types n h) h, few.types)
-  token_small (TypeRef n) h = omega (arith, kept_below k.refs p.refs n (there.refs n h) h, few.refs)
-  token_small (TypeSpec n) h = omega (arith, kept_below k.specs p.specs n (there.specs n h) h, few.specs)
+  token_small = tokens.token_small k p there types_are_few
+
+  raw_small : (s : RawType) → InType Has s → RawIsSmall (raw_to k s)
+  raw_small = tokens.raw_small k p there types_are_few
+
+  signature_small : (s : RawSignature) → InSignature Has s → IsSmall (length s.parameters) → SignatureIsSmall (signature_to k s)
+  signature_small = tokens.signature_small k p there types_are_few
 
   scope_small : (s : Scope) → HasScope k s → ScopeIsSmall (scope_to k s)
   scope_small (OfAssembly n) h = omega (arith, kept_below k.assemblies p.assemblies n (there.assemblies n h) h, few.assemblies)
   scope_small (Inside n) h = omega (arith, kept_below k.refs p.refs n (there.refs n h) h, few.refs)
   scope_small Nowhere h = tt
-
-  raw_small : (s : RawType) → InType Has s → RawIsSmall (raw_to k s)
-  raw_small (RawSpelt e) h = tt
-  raw_small (RawClass t) h = token_small t h
-  raw_small (RawValue t) h = token_small t h
-  raw_small (RawArray s) h = raw_small s h
-
-  place_small : (s : RawPlace) → InPlace Has s → InPlace TypeIsSmall (place_to k s)
-  place_small (RawDirect s) h = raw_small s h
-  place_small (RawByRef s) h = raw_small s h
-
-  mapped_small : {A B : Type 0} (make : A → B) (xs : List A) → IsSmall (length xs) → IsSmall (length (map make xs))
-  mapped_small make xs small = subst IsSmall (sym (mapped_length make xs)) small
-    where
-      mapped_length : {A B : Type 0} (make : A → B) (xs : List A) → length (map make xs) ≡ length xs
-      mapped_length make [] = refl
-      mapped_length make (x ∷ xs) = ap suc (mapped_length make xs)
-
-  signature_small : (s : RawSignature) → InSignature Has s → IsSmall (length s.parameters) → SignatureIsSmall (signature_to k s)
-  signature_small s h small =
-      record {
-        tokens = (in_mapped (InType Has) RawIsSmall (raw_to k) raw_small s.returns h.0, each_to (InPlace Has) (InPlace TypeIsSmall) (place_to k) place_small s.parameters h.1);
-        parameters = mapped_small (place_to k) s.parameters small;
-      }
 
   -- ---- code
 

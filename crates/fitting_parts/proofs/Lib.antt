@@ -1,3 +1,4 @@
 pub mod ByteLaws
 pub mod RowLaws
+pub mod TokenLaws
 pub mod KeptLaws

@@ -1,0 +1,4 @@
+mod ColumnLaws
+mod KeptLaws
+mod CountLaws
+mod FileLaws
