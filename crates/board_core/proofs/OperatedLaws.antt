@@ -7,7 +7,7 @@ use Rattle.wire_packets.specs.declared.command.TheConstants.{DONE, FLASH_FAILED}
 use Rattle.deploy_model.specs.Board.{Parts, Outcome, Works, Fails, Did, operation_asked, does, did_asked, did_operation, reply_to}
 use Rattle.board_core.specs.Operated.{Answers}
 
-some_does : (parts : Parts) (content text : List ℕ) (p : Packet) (outcome : Outcome) (op : Operation) → operation_asked p ≡ Some op → does parts content text p outcome ≡ did_operation op content text outcome
+pub some_does : (parts : Parts) (content text : List ℕ) (p : Packet) (outcome : Outcome) (op : Operation) → operation_asked p ≡ Some op → does parts content text p outcome ≡ did_operation op content text outcome
 unfolding does
 some_does parts content text p outcome op is = ap (λ (o : Option Operation). did_asked parts content text p outcome o) is
 

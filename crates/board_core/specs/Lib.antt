@@ -1,2 +1,6 @@
 pub mod Asked
+pub mod Ends
+pub mod Handling
 pub mod Operated
+pub mod Plain
+pub mod Worlds

@@ -1,6 +1,15 @@
-//! What a board does with the packets that reach it. Here: a request that asks for an operation of the flash.
+//! What a board does with the packets that reach it.
 #![tactic(auto)]
 
+mod core;
+mod doing;
+mod handled;
+pub mod law;
 mod operating;
+mod replies;
+mod runs;
 
+pub use core::Core;
+pub use handled::Handled;
 pub use operating::{Asked, PowerOff, handle_operation, operate, operation_asked};
+pub use runs::{Ended, Runs};

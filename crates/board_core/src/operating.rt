@@ -84,7 +84,7 @@ pub fn operate<F: Flash>(flash: &mut F, asked: &Asked<'_>) -> Result<(), FlashEr
 }
 
 /// A reply to a request.
-fn reply_to(p: &Packet, payload: &[u8]) -> Packet
+pub(crate) fn reply_to(p: &Packet, payload: &[u8]) -> Packet
     requires { length payload.now ≤ MAX_PAYLOAD }
     ensures { result ≡ reply_to p.now payload.now }
 {
