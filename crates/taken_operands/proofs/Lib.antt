@@ -1,0 +1,4 @@
+pub mod OperandLaws
+pub mod KeptLaws
+pub mod AcceptedLaws
+pub mod TakenLaws
