@@ -1,6 +1,6 @@
-//! Instructions that only go on, or push a value that stands in the code: `nop`, `br`, `ldc`, `ldnull` and `ldtoken` (ECMA-335 III.3).
+//! Instructions that only go on, or change the stack alone: `nop`, `br`, `ldc`, `ldnull`, `ldtoken`, `dup` and `pop` (ECMA-335 III.3).
 #![tactic(auto)]
 
 mod stack;
 
-pub use stack::{go_on, push_on};
+pub use stack::{drop_top, duplicate, go_on, push_on};

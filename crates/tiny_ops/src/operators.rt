@@ -2,7 +2,7 @@
 
 ghost use Rattle.std.specs.Prelude.{◌≡◌};
 ghost use Rattle.std.specs.Option.{option_map};
-ghost use Rattle.machine.specs.Numbers.{of_bool, sight_of, pair_of, on_pair, on_shift, on_unary, compared, branch_compared, widened, on_convert, on_convert_checked, truth as is_true, branch_compare as is_branched};
+ghost use Rattle.machine.specs.Numbers.{of_bool, sight_of, pair_of, on_pair, compared, widened, binary as calculated, shift as is_shifted, unary as is_inverted, compare as is_compared, convert as is_converted, convert_checked as is_checked, truth as is_true, branch_compare as is_branched};
 ghost use Rattle.tiny_ops.specs.Operators.{Leads, stack_value, answer_of, given, unary_of, binary_of, pair_in};
 
 use crate::answer::{OpEnd, Pair};
@@ -39,10 +39,20 @@ fn on_numbers(operator: Operator, pair: Pair) -> OpEnd
     }
 }
 
-/// A shift of a number by an int32.
+/// Arithmetic on two numbers of one width, the second one topmost (III.1.5, tables 2, 5 and 7). Other operands have no case.
 #[inline(always)]
-fn shift(operator: ShiftOperator, x: Value, count: Value) -> OpEnd
-    ensures { (l : Leads) → answer_of l result ≡ given (on_shift operator (sight_of (stack_value l x)) (sight_of (stack_value l count))) }
+#[tactic(auto, unfolding(machine::specs::Numbers::binary))]
+pub fn calculate(operator: Operator, x: Value, y: Value) -> OpEnd
+    ensures { (l : Leads) → answer_of l result ≡ calculated operator (stack_value l x) (stack_value l y) }
+{
+    on_numbers(operator, pair(x, y))
+}
+
+/// A shift of a number by an int32 (III.3.58 to III.3.60). Other operands have no case.
+#[inline(always)]
+#[tactic(auto, unfolding(machine::specs::Numbers::shift))]
+pub fn shift(operator: ShiftOperator, x: Value, count: Value) -> OpEnd
+    ensures { (l : Leads) → answer_of l result ≡ given (is_shifted operator (stack_value l x) (stack_value l count)) }
 {
     match (x, count) {
         (Value::Int(x), Value::Int(count)) => {
@@ -57,7 +67,7 @@ fn shift(operator: ShiftOperator, x: Value, count: Value) -> OpEnd
 
 /// A comparison: references are compared by `ceq`, and by `cgt.un`, which tells that they aren't the same.
 #[inline(always)]
-fn compare(comparison: Comparison, pair: Pair) -> Option<bool>
+fn compare_pair(comparison: Comparison, pair: Pair) -> Option<bool>
     ensures { result ≡ compared comparison (pair_in pair) }
 {
     match (comparison, pair) {
@@ -69,10 +79,11 @@ fn compare(comparison: Comparison, pair: Pair) -> Option<bool>
     }
 }
 
-/// An operator of one number.
+/// `neg` and `not` (III.1.5, tables 3 and 5). Other operands than numbers have no case.
 #[inline(always)]
-fn invert(operator: UnaryOperator, x: Value) -> OpEnd
-    ensures { (l : Leads) → answer_of l result ≡ given (on_unary operator (sight_of (stack_value l x))) }
+#[tactic(auto, unfolding(machine::specs::Numbers::unary))]
+pub fn invert(operator: UnaryOperator, x: Value) -> OpEnd
+    ensures { (l : Leads) → answer_of l result ≡ given (is_inverted operator (stack_value l x)) }
 {
     match x {
         Value::Int(x) => OpEnd::Gives(Value::Int(ints::inverted_by(operator, x))),
@@ -92,10 +103,11 @@ fn wide(integer: IntegerType, x: i32) -> u64
     }
 }
 
-/// A number cut to an integer type.
+/// A number cut to an integer type (III.3.27). Other operands have no case.
 #[inline(always)]
-fn convert(integer: IntegerType, x: Value) -> OpEnd
-    ensures { (l : Leads) → answer_of l result ≡ given (on_convert integer (sight_of (stack_value l x))) }
+#[tactic(auto, unfolding(machine::specs::Numbers::convert))]
+pub fn convert(integer: IntegerType, x: Value) -> OpEnd
+    ensures { (l : Leads) → answer_of l result ≡ given (is_converted integer (stack_value l x)) }
 {
     match x {
         Value::Int(x) => OpEnd::Gives(cut_to(integer, wide(integer, x))),
@@ -104,10 +116,11 @@ fn convert(integer: IntegerType, x: Value) -> OpEnd
     }
 }
 
-/// A number, as the sign reads it, where it fits the integer type.
+/// A number, as the sign reads it, where it fits the integer type (III.3.28, III.3.29). Other operands have no case.
 #[inline(always)]
-fn convert_checked(integer: IntegerType, source: Sign, x: Value) -> OpEnd
-    ensures { (l : Leads) → answer_of l result ≡ on_convert_checked integer source (sight_of (stack_value l x)) }
+#[tactic(auto, unfolding(machine::specs::Numbers::convert_checked))]
+pub fn convert_checked(integer: IntegerType, source: Sign, x: Value) -> OpEnd
+    ensures { (l : Leads) → answer_of l result ≡ is_checked integer source (stack_value l x) }
 {
     match x {
         Value::Int(x) => fitting(integer, ints::exact(source, x)),
@@ -128,9 +141,18 @@ fn number_of(test: Option<bool>) -> OpEnd
     }
 }
 
+/// A comparison of two values of one kind, the second one topmost, as 1 or 0 (III.3.21 to III.3.26). References are compared by `ceq`
+/// and `cgt.un` alone; other operands have no case.
+#[inline(always)]
+#[tactic(auto, unfolding(machine::specs::Numbers::compare))]
+pub fn compare(comparison: Comparison, x: Value, y: Value) -> OpEnd
+    ensures { (l : Leads) → answer_of l result ≡ given (option_map of_bool (is_compared comparison (stack_value l x) (stack_value l y))) }
+{
+    number_of(compare_pair(comparison, pair(x, y)))
+}
+
 /// What the operator of an opcode answers of one operand: `neg`, `not` and the conversions (III.3.27 to III.3.29, III.3.50, III.3.51).
 /// Every other opcode, and every other operand, has no case.
-#[tactic(auto, unfolding(machine::specs::Numbers::unary, machine::specs::Numbers::convert, machine::specs::Numbers::convert_checked))]
 pub fn unary(op: u16, x: Value) -> OpEnd
     ensures { (l : Leads) → answer_of l result ≡ unary_of op (stack_value l x) }
 {
@@ -147,7 +169,6 @@ pub fn unary(op: u16, x: Value) -> OpEnd
 
 /// What the operator of an opcode answers of two operands, the second one topmost: arithmetic, shifts and comparisons
 /// (III.1.5, tables 2 and 4 to 7). Every other opcode, and operands that it doesn't take, have no case.
-#[tactic(auto, unfolding(machine::specs::Numbers::binary, machine::specs::Numbers::shift, machine::specs::Numbers::compare))]
 pub fn binary(op: u16, x: Value, y: Value) -> OpEnd
     ensures { (l : Leads) → answer_of l result ≡ binary_of op (stack_value l x) (stack_value l y) }
 {
@@ -155,9 +176,9 @@ pub fn binary(op: u16, x: Value, y: Value) -> OpEnd
         return OpEnd::NoCase;
     };
     match found.shape {
-        Shape::Binary(operator) => on_numbers(operator, pair(x, y)),
+        Shape::Binary(operator) => calculate(operator, x, y),
         Shape::Shift(operator) => shift(operator, x, y),
-        Shape::Compare(comparison) => number_of(compare(comparison, pair(x, y))),
+        Shape::Compare(comparison) => compare(comparison, x, y),
         _ => OpEnd::NoCase,
     }
 }

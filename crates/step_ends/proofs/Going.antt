@@ -14,11 +14,15 @@ use Rattle.tiny_ram.specs.declared.memory.Ram.{Ram}
 use Rattle.memory_states.specs.Values.{IsValue}
 use Rattle.memory_states.specs.States.{AreFrames, IsMachineFrame, StandsFor}
 use Rattle.memory_states.proofs.Frames.{changed, value_over, arguments_kept, locals_kept, pushed_is}
-use Rattle.step_stack.specs.Meets.{GoesOn}
+use Rattle.step_ends.specs.Ends.{GoesOn}
 
 -- a place that is passed as an int32
-pub there_back : (n : ℕ) (z : ℤ) → n < 2 ^ 32 → z ≡ cast_signed w32 n → cast_signed w32 (cast_unsigned w32 z) ≡ cast_signed w32 n
+there_back : (n : ℕ) (z : ℤ) → n < 2 ^ 32 → z ≡ cast_signed w32 n → cast_signed w32 (cast_unsigned w32 z) ≡ cast_signed w32 n
 there_back n z l e = ap (λ z. cast_signed w32 (cast_unsigned w32 z)) e ∙ ap (cast_signed w32) (of_z-to_z w32 n l)
+
+-- a frame that was sent to a place
+pub moved : (u : Ram) (m : Memory) (f : RamFrame) (fs : List RamFrame) (n : ℕ) (z : ℤ) → n < 2 ^ 32 → z ≡ cast_signed w32 n → Keeps u (with_frames m (record f { place = cast_signed w32 (cast_unsigned w32 z) } ∷ fs)) → Keeps u (with_frames m (record f { place = cast_signed w32 n } ∷ fs))
+moved u m f fs n z l e k = subst (λ (x : ℤ). Keeps u (with_frames m (record f { place = x } ∷ fs))) (there_back n z l e) k
 
 module _ (p : Program) (outer : Id → ℕ → ℕ → Bool) where
   -- a frame at another place
@@ -70,23 +74,31 @@ module _ (p : Program) (outer : Id → ℕ → ℕ → Bool) where
 
   -- the memory with the frame at the place stands for that state
   pub on : (u : Ram) (m : Memory) (s : State) (f : RamFrame) (fs : List RamFrame) (g : Frame) (gs : List Frame) → StandsFor p outer m s → IsMachineFrame p outer s.heap m.room f fs g gs → AreFrames p outer s.heap m.room fs gs
-      → (place : ℕ) → place < 2 ^ 32 → Keeps u (with_frames m (record f { place = cast_signed w32 place } ∷ fs)) → GoesOn p outer u (goes p s g gs place g.stack)
+      → (place : ℕ) → place < 2 ^ 32 → Keeps u (with_frames m (record f { place = cast_signed w32 place } ∷ fs)) → GoesOn p outer s u m.room (goes p s g gs place g.stack)
   on u m s f fs g gs h k callers place fits kept =
       record {
         state = record s { frames = record g { place = place } ∷ gs };
         is = goes_to s g gs k.of place g.stack k.is k.most;
+        end = refl;
         memory = with_frames m (record f { place = cast_signed w32 place } ∷ fs);
         kept = kept;
         alike = record { heap = h.heap; frames = (placed_is s.heap m.room f fs g gs k place fits, callers) };
+        same_room = refl;
       }
 
   same_goes : (s : State) (g : Frame) (gs : List Frame) (place : ℕ) (stack : List Value) → goes p s (record g { stack = stack }) gs place stack ≡ goes p s g gs place stack
   unfolding goes
   same_goes s g gs place stack = refl
 
+  -- the same of a frame with another stack
+  pub went_on : (u : Ram) (m : Memory) (s : State) (f : RamFrame) (fs : List RamFrame) (g : Frame) (gs : List Frame) (stack : List Value) → StandsFor p outer m s → IsMachineFrame p outer s.heap m.room f fs (record g { stack = stack }) gs → AreFrames p outer s.heap m.room fs gs
+      → (place : ℕ) → place < 2 ^ 32 → Keeps u (with_frames m (record f { place = cast_signed w32 place } ∷ fs)) → GoesOn p outer s u m.room (goes p s g gs place stack)
+  went_on u m s f fs g gs stack h k callers place fits kept =
+      subst (GoesOn p outer s u m.room) (same_goes s g gs place stack) (on u m s f fs (record g { stack = stack }) gs h k callers place fits kept)
+
   -- the same with a value on top of the stack
   pub pushed_on : (u : Ram) (m : Memory) (s : State) (f : RamFrame) (fs : List RamFrame) (g : Frame) (gs : List Frame) → StandsFor p outer m s → (k : IsMachineFrame p outer s.heap m.room f fs g gs) → AreFrames p outer s.heap m.room fs gs
       → (r : RamValue) (v : Value) → IsValue m.room (f ∷ fs) r v → length g.stack < k.of.max_stack → (place : ℕ) → place < 2 ^ 32 → Keeps u (with_frames m (record (pushed f r) { place = cast_signed w32 place } ∷ fs))
-      → GoesOn p outer u (goes p s g gs place (v ∷ g.stack))
+      → GoesOn p outer s u m.room (goes p s g gs place (v ∷ g.stack))
   pushed_on u m s f fs g gs h k callers r v is room place fits kept =
-      subst (GoesOn p outer u) (same_goes s g gs place (v ∷ g.stack)) (on u m s (pushed f r) fs (record g { stack = v ∷ g.stack }) gs h (pushed_is p outer s.heap m.room f fs g gs k r v is room) callers place fits kept)
+      went_on u m s (pushed f r) fs g gs (v ∷ g.stack) h (pushed_is p outer s.heap m.room f fs g gs k r v is room) callers place fits kept
