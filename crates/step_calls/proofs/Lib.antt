@@ -1,0 +1,6 @@
+pub mod Initialised
+pub mod Handing
+pub mod Taking
+pub mod Starting
+pub mod Begun
+pub mod Calling

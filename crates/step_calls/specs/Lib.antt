@@ -1,0 +1,3 @@
+pub mod Callees
+pub mod Arguments
+pub mod Starts
