@@ -1,7 +1,9 @@
 -- Where the innermost frame's places are.
-use Rattle.std.proofs.Common.{◌≡◌, ℕ, ◌+◌, ◌*◌, ◌%◌, ◌^◌, ◌<◌, ◌≤◌, List, ◌∷◌, ap, arith}
-use Rattle.std.specs.Prelude.{sum, slice_index}
-use Rattle.tiny_ram.specs.Memory.{RamFrame, Memory, frames_cells, variables}
+use Rattle.std.proofs.Common.{◌≡◌, ℕ, ◌+◌, ◌*◌, ◌%◌, ◌^◌, ◌<◌, ◌≤◌, List, ◌∷◌, ap, arith, suc, Bool, true, None}
+use Rattle.std.specs.Prelude.{sum, slice_index, nat_lt, if◌then◌else◌}
+use Rattle.std.proofs.lemmas.Bool.{le-leb}
+use Rattle.memory_states.specs.States.{place_held}
+use Rattle.tiny_ram.specs.Memory.{RamFrame, Memory, frames_cells, variables, variable_value}
 use Rattle.tiny_ram.specs.Region.{Keeps}
 use Rattle.tiny_ram.specs.declared.memory.Ram.{Ram}
 use Rattle.tiny_ram.proofs.Stacks.{stacked-end}
@@ -29,3 +31,10 @@ first_size f = let four = four_sizes f.sizes in omega (arith, four)
 
 pub variable_inside : (f : RamFrame) (i : ℕ) → i < variables f → i < sum f.sizes
 variable_inside f i l = let four = four_sizes f.sizes in omega (arith, four, l)
+
+pub is_variable : (i n : ℕ) → i < n → nat_lt i n ≡ true
+is_variable i n l = le-leb (suc i) n l
+
+-- what is told by position alone
+pub variable_held : (f : RamFrame) (i : ℕ) → i < variables f → variable_value f i ≡ place_held f i
+variable_held f i l = ap (λ (b : Bool). if b then place_held f i else None) (is_variable i (variables f) l)

@@ -15,8 +15,11 @@ use board_types::value::{RamPlace, Value};
 use cil_opcodes::shape::IntegerType;
 use kept_values::PlaceKind;
 use plain_types::elem::Elem;
-use ram_words::elements::ElementKind;
+use ram_words::elements::{ElementKind, zero_of};
 use tiny_ram::Ram;
+
+/// The first place of a frame that has no number of 16 bits.
+const FAR: u32 = 0x1_0000;
 
 /// A type whose places are of the kind.
 fn elem_of(kind: ElementKind) -> Elem
@@ -72,6 +75,19 @@ pub(crate) fn local_index(ram: &Ram, n: u16) -> u32
 pub(crate) fn value_at(ram: &Ram, index: u32, unput: Elem) -> Value
     ensures { (m : Memory) (f : RamFrame) (fs : List RamFrame) → Keeps ram.now m → m.frames ≡ f ∷ fs → index < variables f → result ≡ shown unput (place_held f index) }
 {
+    if index >= FAR {
+        return far_value(ram, index, unput);
+    }
+    match ram.variable(index as u16) {
+        Some(value) => value,
+        None => zero_of(unput),
+    }
+}
+
+/// The same by the frame's number.
+fn far_value(ram: &Ram, index: u32, unput: Elem) -> Value
+    ensures { (m : Memory) (f : RamFrame) (fs : List RamFrame) → Keeps ram.now m → m.frames ≡ f ∷ fs → index < variables f → result ≡ shown unput (place_held f index) }
+{
     let thing = ram.top();
     ram.get(RamPlace {
         thing,
@@ -82,6 +98,17 @@ pub(crate) fn value_at(ram: &Ram, index: u32, unput: Elem) -> Value
 
 /// Puts a value into an argument or a local as it is, by where it lies in the innermost frame.
 pub(crate) fn put_at(ram: &mut Ram, index: u32, value: Value)
+    ensures { (m : Memory) (f : RamFrame) (fs : List RamFrame) → Keeps ram.old m → m.frames ≡ f ∷ fs → index < variables f → Keeps ram.new (with_frames m (record f { places = slice_set f.places index (Some value) } ∷ fs)) }
+{
+    if index >= FAR {
+        put_far(ram, index, value);
+        return;
+    }
+    ram.put_variable(index as u16, value);
+}
+
+/// The same by the frame's number.
+fn put_far(ram: &mut Ram, index: u32, value: Value)
     ensures { (m : Memory) (f : RamFrame) (fs : List RamFrame) → Keeps ram.old m → m.frames ≡ f ∷ fs → index < variables f → Keeps ram.new (with_frames m (record f { places = slice_set f.places index (Some value) } ∷ fs)) }
 {
     let thing = ram.top();

@@ -1,12 +1,14 @@
-use Rattle.std.proofs.Common.{ap, ◌∙◌}
-use Rattle.std.specs.Prelude.{sum}
-use Rattle.tiny_ram.specs.Memory.{part_value, shown}
-use Rattle.tiny_except.proofs.Tops.{top_is, slot_part}
-use Rattle.step_places.proofs.Rooms.{variable_inside}
+use Rattle.std.proofs.Common.{sym, ap, ◌∙◌}
+use Rattle.tiny_ram.specs.Memory.{shown}
+use Rattle.step_places.proofs.Rooms.{variable_held}
 use Rattle.step_places.proofs.places.value_at.Goals as goal
 
-pub returns : goal.returns
-returns c =
+pub returns-in-Some : goal.returns-in-Some
+returns-in-Some c =
     λ m f fs keeps e l.
-    c.get.ensures.frame m f keeps (top_is m c.top-thing.result f fs e (c.top-thing.ensures m keeps))
-    ∙ ap (λ q. shown c.args.unput (part_value f c.args.index q)) (slot_part (sum f.sizes) c.args.index (variable_inside f c.args.index l))
+    sym (ap (shown c.args.unput) (sym (variable_held f c.args.index l) ∙ sym (c.variable.ensures m f fs keeps e) ∙ c.in-Some.is))
+
+pub returns-in-None : goal.returns-in-None
+returns-in-None c =
+    λ m f fs keeps e l.
+    c.zero_of.ensures ∙ sym (ap (shown c.args.unput) (sym (variable_held f c.args.index l) ∙ sym (c.variable.ensures m f fs keeps e) ∙ c.in-None.is))

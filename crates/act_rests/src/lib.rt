@@ -1,0 +1,4 @@
+//! What acts of instructions leave as it was: a law of the machine.
+#![tactic(auto)]
+
+pub mod law;
