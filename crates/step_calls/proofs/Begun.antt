@@ -1,5 +1,5 @@
 -- A frame starts, or doesn't.
-use Rattle.std.proofs.Common.{◌≡◌, ℕ, ◌+◌, ◌<◌, ◌≤◌, List, ◌∷◌, length, Option, None, ap, ◌∙◌, arith}
+use Rattle.std.proofs.Common.{◌≡◌, ℕ, ◌+◌, ◌<◌, ◌≤◌, List, ◌∷◌, length, Option, None, sym, ap, ◌∙◌, subst, arith}
 use Rattle.std.specs.Prelude.{sum, slice_index}
 use Rattle.std.proofs.lemmas.List.{length-replicate}
 use Rattle.board_types.specs.declared.value.Value.{Value as RamValue}
@@ -12,28 +12,28 @@ use Rattle.step_ends.specs.declared.acted.Acted.{Acted}
 use Rattle.step_ends.specs.declared.acted.Acted.TheVariants.{Done, Stuck, Spent, Raises}
 use Rattle.step_calls.specs.declared.callee.Callee.{Callee}
 use Rattle.step_calls.specs.declared.arguments.Given.{Given}
-use Rattle.step_calls.specs.Arguments.{AreBeside, HandedOver, IsGiven}
-use Rattle.step_calls.specs.Starts.{EndsWithout, IsStarted, Starts}
+use Rattle.step_calls.specs.Arguments.{count_in, AreBeside, HandedOver, IsGiven}
+use Rattle.step_calls.specs.Starts.{EndsWithout, HaveArguments, IsStarted, Starts}
 use Rattle.step_calls.proofs.Handing.{deep}
 
-module _ (r : Ram) (m : Memory) (f : RamFrame) (fs : List RamFrame) (c : Callee) (kinds : ℕ → PlaceKind) (x : Given) (k : Keeps r m) (e : m.frames ≡ f ∷ fs) (given : IsGiven m f (slice_index c.sizes 0) x) where
-  pub inside : x.first + slice_index c.sizes 0 ≤ sum f.sizes
-  inside =
-      let d = deep r m f fs k e in
-      let most = d.most in
-      let places = d.inside in
-      let first = given.first in
-      let enough = given.enough in
-      omega (arith, most, places, first, enough)
+-- the topmost values of the stack are a method's arguments
+pub have : (r : Ram) (m : Memory) (f : RamFrame) (fs : List RamFrame) (c : Callee) (x : Given) → Keeps r m → m.frames ≡ f ∷ fs → IsGiven m f (slice_index c.sizes 0) x → HaveArguments m f c x
+have r m f fs c x k e given =
+    let d = deep r m f fs k e in
+    let most = d.most in
+    let places = d.inside in
+    let first = given.first in
+    let enough = given.enough in
+    let below = given.below in
+    let within : x.first + slice_index c.sizes 0 ≤ sum f.sizes = omega (arith, most, places, first, enough) in
+    record {
+      frame = given.frame;
+      inside = record { within = subst (λ (o : Option RamValue). x.first + count_in o (slice_index c.sizes 0) ≤ sum f.sizes) (sym given.whole) within };
+      deep = omega (arith, most, below);
+    }
 
-  pub shallow : x.below ≤ slice_index f.sizes 2
-  shallow =
-      let d = deep r m f fs k e in
-      let most = d.most in
-      let below = given.below in
-      omega (arith, most, below)
-
-  pub without : (u : Ram) (a : Acted) → EndsWithout f kinds x.first (slice_index c.sizes 0) a → m.room < used m + frame_cells (fresh_frame c.method c.sizes) → Starts u m f fs c kinds x a
+module _ (m : Memory) (f : RamFrame) (fs : List RamFrame) (c : Callee) (kinds : ℕ → PlaceKind) (x : Given) (e : m.frames ≡ f ∷ fs) (given : HaveArguments m f c x) where
+  pub without : (u : Ram) (a : Acted) → EndsWithout f kinds x (slice_index c.sizes 0) a → m.room < used m + frame_cells (fresh_frame c.method c.sizes) → Starts u m f fs c kinds x a
   without u Done h l = absurd h
   without u Stuck h l = h
   without u Spent h l = record { kept = h; more = l }
@@ -56,7 +56,7 @@ module _ (r : Ram) (m : Memory) (f : RamFrame) (fs : List RamFrame) (c : Callee)
       fits = let cells = ap frames_cells e in omega (arith, fits, cells);
     }
 
-    pub begun : (q u : Ram) → (h : HandedOver q (with_frame m (fresh_frame c.method c.sizes)) (fresh_frame c.method c.sizes) f fs kinds x.first (slice_index c.sizes 0)) → Keeps u (with_frames m (record (fresh_frame c.method c.sizes) { places = h.places } ∷ record f { depth = x.below } ∷ fs)) → IsStarted u m f fs c kinds x
+    pub begun : (q u : Ram) → (h : HandedOver q (with_frame m (fresh_frame c.method c.sizes)) (fresh_frame c.method c.sizes) f fs kinds x (slice_index c.sizes 0)) → Keeps u (with_frames m (record (fresh_frame c.method c.sizes) { places = h.places } ∷ record f { depth = x.below } ∷ fs)) → IsStarted u m f fs c kinds x
     begun q u h kept = record {
       places = h.places;
       keeps = kept;

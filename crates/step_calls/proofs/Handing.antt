@@ -11,7 +11,8 @@ use Rattle.tiny_ram.proofs.Tops.{top_of}
 use Rattle.memory_states.proofs.Lists.{set_here, set_elsewhere}
 use Rattle.tiny_except.proofs.Walks.{small}
 use Rattle.tiny_except.proofs.Tops.{top_is}
-use Rattle.step_calls.specs.Arguments.{AreBeside, HandedOne, IsHanded, HandedOver}
+use Rattle.step_calls.specs.declared.arguments.Given.{Given}
+use Rattle.step_calls.specs.Arguments.{value_of, AreBeside, HandedOne, IsHanded, HandedOver}
 
 pub wrapped : (a b n : ℕ) → a + b < n → n ≤ 4194304 → (a + b) % 4294967296 ≡ a + b
 wrapped a b n l k = omega (arith, l, k)
@@ -30,30 +31,27 @@ deep r m f fs k e =
     let top = top_of r.words.items r.heap r.hot m f fs k e in
     record { most = top.stands.depth; inside = top.three; few = small r m (innermost m.room m.frames) f k (top_is m (innermost m.room m.frames) f fs e refl) }
 
-module _ (m : Memory) (x f : RamFrame) (fs : List RamFrame) (from to : ℕ) (e : m.frames ≡ x ∷ f ∷ fs) (b : AreBeside m.room x f fs from to) where
+module _ (m : Memory) (y f : RamFrame) (fs : List RamFrame) (from to : ℕ) (e : m.frames ≡ y ∷ f ∷ fs) (b : AreBeside m.room y f fs from to) where
   pub caller_is : IsFrame m from f
   caller_is =
       ap (frame_at m.room m.frames) b.calls ∙ ap (λ z. frame_at m.room z (innermost m.room (f ∷ fs))) e
-      ∙ frame_stays m.room x (f ∷ fs) (innermost m.room (f ∷ fs)) f b.fits (frame_new m.room f fs)
+      ∙ frame_stays m.room y (f ∷ fs) (innermost m.room (f ∷ fs)) f b.fits (frame_new m.room f fs)
 
   pub starts_at : to ≡ innermost m.room m.frames
   starts_at = b.starts ∙ sym (ap (innermost m.room) e)
 
-module _ (m : Memory) (x f : RamFrame) (fs : List RamFrame) (kinds : ℕ → PlaceKind) (first : ℕ) where
-  pub none_handed : (r : Ram) → Keeps r m → m.frames ≡ x ∷ f ∷ fs → HandedOver r m x f fs kinds first 0
+module _ (m : Memory) (y f : RamFrame) (fs : List RamFrame) (kinds : ℕ → PlaceKind) (x : Given) where
+  pub none_handed : (r : Ram) → Keeps r m → m.frames ≡ y ∷ f ∷ fs → HandedOver r m y f fs kinds x 0
   none_handed r k e = record {
-    places = x.places;
+    places = y.places;
     keeps = subst (λ (z : List RamFrame). Keeps r (with_frames m z)) e k;
     count = refl;
     each = λ i l. absurd (omega (arith, l));
     others = λ i l. refl;
   }
 
-  module _ (u v : Ram) (i : ℕ) (old : HandedOver u m x f fs kinds first i) (inside : i < length x.places) where
-    now : RamFrame
-    now = record x { places = old.places }
-
-    pub one_more : HandedOne v (with_frames m (record x { places = old.places } ∷ f ∷ fs)) (record x { places = old.places }) f fs (kinds i) (first + i) i → HandedOver v m x f fs kinds first (i + 1)
+  module _ (u v : Ram) (i : ℕ) (old : HandedOver u m y f fs kinds x i) (inside : i < length y.places) where
+    pub one_more : HandedOne v (with_frames m (record y { places = old.places } ∷ f ∷ fs)) (record y { places = old.places }) (f ∷ fs) (kinds i) (value_of f x i) i → HandedOver v m y f fs kinds x (i + 1)
     one_more h =
         let held = slice_set old.places i (Some h.kept.value) in
         let count = old.count in
@@ -62,7 +60,7 @@ module _ (m : Memory) (x f : RamFrame) (fs : List RamFrame) (kinds : ℕ → Pla
           places = held;
           keeps = h.keeps;
           count = length-set old.places i (Some h.kept.value) ∙ old.count;
-          each = below_more (λ j. IsHanded f held (kinds j) (first + j) j) i
+          each = below_more (λ j. IsHanded held (kinds j) (value_of f x j) j) i
               (λ j l. let one = old.each j l in record { kept = one.kept; here = set_elsewhere old.places i j (Some h.kept.value) (λ q. omega (arith, q, l)) ∙ one.here })
               (record { kept = h.kept; here = set_here old.places i (Some h.kept.value) here });
           others = λ j l. set_elsewhere old.places i j (Some h.kept.value) (λ q. omega (arith, q, l)) ∙ old.others j (omega (arith, l));

@@ -2,10 +2,11 @@
 
 ghost use Rattle.std.specs.Prelude.{◌≡◌, ◌+◌, ◌<◌, ◌≤◌, ℕ, List, ◌∷◌, length, sum};
 ghost use Rattle.kept_values.specs.declared.keeping.PlaceKind.{PlaceKind as Kind};
-ghost use Rattle.tiny_ram.specs.Memory.{Memory, RamFrame, IsFrame};
+ghost use Rattle.tiny_ram.specs.Memory.{Memory, RamFrame, IsFrame, innermost};
 ghost use Rattle.tiny_ram.specs.Region.{Keeps};
-ghost use Rattle.step_calls.specs.Arguments.{AreGiven, AreBeside, KeepsOne, HandsOne, KeepsAll, HandsOver};
+ghost use Rattle.step_calls.specs.Arguments.{AreGiven, AreBeside, AreInside, held_at, value_of, KeepsOne, HandsOne, KeepsAll, HandsOver};
 
+use board_types::value::Value;
 use frame_parts::{depth, place, put_place};
 use kept_values::{PlaceKind, keep};
 use tiny_ram::Ram;
@@ -26,10 +27,12 @@ pub struct Given {
     pub frame: u32,
     pub first: u32,
     pub below: u32,
+    /// The first argument, where it doesn't lie there.
+    pub this: Option<Value>,
 }
 
 /// Where the n topmost values of the innermost frame lie; none where there are fewer.
-pub(crate) fn topmost(ram: &Ram, n: u32) -> Option<Given>
+pub fn topmost(ram: &Ram, n: u32) -> Option<Given>
     ensures { (m : Memory) (f : RamFrame) (fs : List RamFrame) → Keeps ram.now m → m.frames ≡ f ∷ fs → AreGiven m f n result }
 {
     let frame = ram.top();
@@ -43,14 +46,37 @@ pub(crate) fn topmost(ram: &Ram, n: u32) -> Option<Given>
         frame,
         first: arguments.wrapping_add(locals).wrapping_add(below),
         below,
+        this: None,
     })
 }
 
-/// Whether the place keeps the i-th argument.
-fn keeps_one(ram: &Ram, kind: PlaceKind, from: Given, i: u32) -> bool
-    ensures { (m : Memory) (f : RamFrame) → Keeps ram.now m → IsFrame m from.frame f → from.first + i < sum f.sizes → KeepsOne f kind (from.first + i) result }
+/// The i-th of the values that lie on the stack.
+fn on_stack(ram: &Ram, from: Given, i: u32) -> Value
+    ensures { (m : Memory) (f : RamFrame) → Keeps ram.now m → IsFrame m from.frame f → from.first + i < sum f.sizes → result ≡ held_at f (from.first + i) }
 {
-    match keep(kind, place(ram, from.frame, from.first.wrapping_add(i))) {
+    place(ram, from.frame, from.first.wrapping_add(i))
+}
+
+/// The i-th argument.
+fn argument(ram: &Ram, from: Given, i: u32) -> Value
+    ensures { (m : Memory) (f : RamFrame) (n : ℕ) → Keeps ram.now m → IsFrame m from.frame f → AreInside f from n → i < n → result ≡ value_of f from i }
+{
+    let Some(this) = from.this else {
+        let whole = on_stack(ram, from, i);
+        return whole;
+    };
+    if i == 0 {
+        return this;
+    }
+    let other = on_stack(ram, from, i - 1);
+    other
+}
+
+/// Whether a place keeps the value.
+fn keeps_one(kind: PlaceKind, value: Value) -> bool
+    ensures { KeepsOne kind value result }
+{
+    match keep(kind, value) {
         None => false,
         Some(_) => true,
     }
@@ -58,21 +84,22 @@ fn keeps_one(ram: &Ram, kind: PlaceKind, from: Given, i: u32) -> bool
 
 /// Whether the places keep the first n arguments.
 pub(crate) fn keeps_all<P: Places>(ram: &Ram, places: &P, from: Given, n: u32) -> bool
-    ensures { (m : Memory) (f : RamFrame) → Keeps ram.now m → IsFrame m from.frame f → from.first + n ≤ sum f.sizes → KeepsAll f (P.place places.now) from.first n result }
+    ensures { (m : Memory) (f : RamFrame) → Keeps ram.now m → IsFrame m from.frame f → AreInside f from n → KeepsAll f (P.place places.now) from n result }
 {
     for i in 0..n {
-        if !keeps_one(ram, places.place(i), from, i) {
+        let value = argument(ram, from, i);
+        if !keeps_one(places.place(i), value) {
             return false;
         }
     }
     true
 }
 
-/// Hands the i-th argument over to the frame that starts. False where the place doesn't keep it.
-fn hand_one(ram: &mut Ram, kind: PlaceKind, from: Given, to: u32, i: u32) -> bool
-    ensures { (m : Memory) (x f : RamFrame) (fs : List RamFrame) → Keeps ram.old m → m.frames ≡ x ∷ f ∷ fs → AreBeside m.room x f fs from.frame to → from.first + i < sum f.sizes → i < sum x.sizes → HandsOne ram.new m x f fs kind (from.first + i) i result }
+/// Hands a value over as the i-th argument of the frame that starts. False where its place doesn't keep it.
+fn hand_one(ram: &mut Ram, kind: PlaceKind, value: Value, to: u32, i: u32) -> bool
+    ensures { (m : Memory) (y : RamFrame) (ys : List RamFrame) → Keeps ram.old m → m.frames ≡ y ∷ ys → to ≡ innermost m.room m.frames → i < sum y.sizes → HandsOne ram.new m y ys kind value i result }
 {
-    match keep(kind, place(ram, from.frame, from.first.wrapping_add(i))) {
+    match keep(kind, value) {
         None => false,
         Some(kept) => {
             put_place(ram, to, i, kept);
@@ -83,10 +110,11 @@ fn hand_one(ram: &mut Ram, kind: PlaceKind, from: Given, to: u32, i: u32) -> boo
 
 /// Hands the first n arguments over to the frame that starts. False where a place doesn't keep its one.
 pub(crate) fn hand_over<P: Places>(ram: &mut Ram, places: &P, from: Given, to: u32, n: u32) -> bool
-    ensures { (m : Memory) (x f : RamFrame) (fs : List RamFrame) → Keeps ram.old m → m.frames ≡ x ∷ f ∷ fs → AreBeside m.room x f fs from.frame to → from.first + n ≤ sum f.sizes → n ≤ sum x.sizes → length x.places ≡ sum x.sizes → HandsOver ram.new m x f fs (P.place places.now) from.first n result }
+    ensures { (m : Memory) (y f : RamFrame) (fs : List RamFrame) → Keeps ram.old m → m.frames ≡ y ∷ f ∷ fs → AreBeside m.room y f fs from.frame to → AreInside f from n → n ≤ sum y.sizes → length y.places ≡ sum y.sizes → HandsOver ram.new m y f fs (P.place places.now) from n result }
 {
     for i in 0..n {
-        if !hand_one(ram, places.place(i), from, to, i) {
+        let value = argument(ram, from, i);
+        if !hand_one(ram, places.place(i), value, to, i) {
             return false;
         }
     }

@@ -8,8 +8,8 @@ ghost use Rattle.tiny_ram.specs.Memory.{Memory, RamFrame, IsFrame};
 ghost use Rattle.tiny_ram.specs.Region.{Keeps};
 ghost use Rattle.step_ends.specs.Ends.{Before, Ends};
 ghost use Rattle.step_calls.specs.Callees.{IsCallee, HasPlaces};
-ghost use Rattle.step_calls.specs.Arguments.{IsGiven};
-ghost use Rattle.step_calls.specs.Starts.{lacks_room_in, EndsWithout, Starts};
+ghost use Rattle.step_calls.specs.Arguments.{AreInside};
+ghost use Rattle.step_calls.specs.Starts.{lacks_room_in, EndsWithout, HaveArguments, Starts};
 
 use crate::arguments::{Given, Places, hand_over, keeps_all, topmost};
 use crate::callee::Callee;
@@ -18,7 +18,7 @@ use step_ends::Acted;
 use tiny_ram::Ram;
 
 /// Whether the innermost frame has no room for what a method hands back, above so many values of its stack.
-fn lacks_room(ram: &Ram, gives: bool, below: u32) -> bool
+pub fn lacks_room(ram: &Ram, gives: bool, below: u32) -> bool
     ensures { (m : Memory) (f : RamFrame) (fs : List RamFrame) → Keeps ram.now m → m.frames ≡ f ∷ fs → result ≡ lacks_room_in f gives below }
 {
     if !gives {
@@ -29,8 +29,8 @@ fn lacks_room(ram: &Ram, gives: bool, below: u32) -> bool
 }
 
 /// How a call without cells ends: it lacks them only where all arguments are kept.
-fn without_cells<P: Places>(ram: &Ram, places: &P, from: Given, n: u32) -> Acted
-    ensures { (m : Memory) (f : RamFrame) → Keeps ram.now m → IsFrame m from.frame f → from.first + n ≤ sum f.sizes → EndsWithout f (P.place places.now) from.first n result }
+pub fn without_cells<P: Places>(ram: &Ram, places: &P, from: Given, n: u32) -> Acted
+    ensures { (m : Memory) (f : RamFrame) → Keeps ram.now m → IsFrame m from.frame f → AreInside f from n → EndsWithout f (P.place places.now) from n result }
 {
     if keeps_all(ram, places, from, n) {
         Acted::Spent
@@ -40,8 +40,8 @@ fn without_cells<P: Places>(ram: &Ram, places: &P, from: Given, n: u32) -> Acted
 }
 
 /// A frame of the method starts with its arguments, which leave the stack of the frame that calls.
-fn start<P: Places>(ram: &mut Ram, callee: Callee, places: &P, from: Given) -> Acted
-    ensures { (m : Memory) (f : RamFrame) (fs : List RamFrame) → Keeps ram.old m → m.frames ≡ f ∷ fs → IsGiven m f (slice_index callee.sizes 0) from → Starts ram.new m f fs callee (P.place places.now) from result }
+pub fn start<P: Places>(ram: &mut Ram, callee: Callee, places: &P, from: Given) -> Acted
+    ensures { (m : Memory) (f : RamFrame) (fs : List RamFrame) → Keeps ram.old m → m.frames ≡ f ∷ fs → HaveArguments m f callee from → Starts ram.new m f fs callee (P.place places.now) from result }
 {
     let n = callee.sizes[0];
     match ram.frame(callee.method, callee.sizes) {

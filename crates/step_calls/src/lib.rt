@@ -6,7 +6,7 @@ mod callee;
 mod calls;
 mod initialising;
 
-pub use arguments::{Given, Places};
+pub use arguments::{Given, Places, topmost};
 pub use callee::Callee;
-pub use calls::call;
+pub use calls::{call, lacks_room, start, without_cells};
 pub use initialising::start_class;

@@ -1,4 +1,4 @@
-use Rattle.std.proofs.Common.{◌+◌, ◌-◌, ◌%◌, ℕ, List, ap, ◌∙◌, arith}
+use Rattle.std.proofs.Common.{◌+◌, ◌-◌, ◌%◌, ℕ, List, refl, ap, ◌∙◌, arith}
 use Rattle.std.specs.Prelude.{slice_index}
 use Rattle.tiny_except.proofs.Tops.{top_is}
 use Rattle.step_calls.proofs.Handing.{two_wrapped, deep}
@@ -20,6 +20,7 @@ returns c = λ m f fs k e.
     let few = d.few in
     record {
       frame = c.top-frame.ensures m k;
+      whole = refl;
       first =
           ap (λ (z : List ℕ). ((slice_index z 0 + slice_index z 1) % 4294967296 + (c.depth-deep.result - c.args.n)) % 4294967296) (c.sizes.ensures m f k is)
           ∙ ap (λ z. ((slice_index f.sizes 0 + slice_index f.sizes 1) % 4294967296 + (z - c.args.n)) % 4294967296) depth

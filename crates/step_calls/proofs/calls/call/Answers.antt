@@ -2,6 +2,7 @@ use Rattle.std.proofs.Common.{sym, ap, ◌∙◌, arith, List, ℕ}
 use Rattle.std.specs.Prelude.{slice_index}
 use Rattle.step_ends.proofs.Going.{top_of}
 use Rattle.step_calls.specs.Callees.{body_of}
+use Rattle.step_calls.proofs.Begun.{have}
 use Rattle.step_calls.proofs.Calling.{no_body, few, crowded, ends}
 use Rattle.step_calls.proofs.calls.call.Goals as goal
 
@@ -31,4 +32,4 @@ returns g c = λ p outer m s f fs h hs next id b callee places.
     let given = c.in-Some.ensures m f fs b.keeps b.ram_frames in
     ends p outer m s f fs h hs b.alike b.ram_frames b.frames top.frame top.callers next id c.args.callee callee c.if-not-callee.false kinds places c.in-Some.from given
     (sym (c.lacks_room.ensures m f fs b.keeps b.ram_frames) ∙ c.if-lacks_room.false)
-    c.start.new.ram c.start.result (c.start.ensures m f fs b.keeps b.ram_frames given)
+    c.start.new.ram c.start.result (c.start.ensures m f fs b.keeps b.ram_frames (have c.args.ram.now m f fs c.args.callee c.in-Some.from b.keeps b.ram_frames given))
