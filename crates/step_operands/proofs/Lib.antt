@@ -1,0 +1,4 @@
+pub mod Taking
+pub mod Ending
+pub mod Changing
+pub mod Places

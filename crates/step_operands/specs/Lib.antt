@@ -1,0 +1,4 @@
+pub mod Below
+pub mod Named
+pub mod Held
+pub mod Changed
