@@ -41,14 +41,14 @@ pub record Follows (parts : Parts) (start : World) (p : Playing) : Type 0 where
   pub led : run parts p.events start ≡ p.world
   pub possible : ArePossible parts start p.events
 
-follows_on : (parts : Parts) (start : World) (p : Playing) (e : Event) → Follows parts start p → IsPossible parts p.world e → Follows parts start (goes_on parts p e)
+pub follows_on : (parts : Parts) (start : World) (p : Playing) (e : Event) → Follows parts start p → IsPossible parts p.world e → Follows parts start (goes_on parts p e)
 follows_on parts start p e so possible =
     record {
       led = run_push parts p.events e start ∙ ap (λ (w : World). happens parts w e) so.led;
       possible = possible_push parts p.events e start so.possible (subst (λ (w : World). IsPossible parts w e) (sym so.led) possible);
     }
 
-with_stop : (parts : Parts) (start : World) (p : Playing) (stop : Option armed.Stop) (stopped : Bool) → Follows parts start p → Follows parts start (record { world = p.world; events = p.events; stop = stop; stopped = stopped })
+pub with_stop : (parts : Parts) (start : World) (p : Playing) (stop : Option armed.Stop) (stopped : Bool) → Follows parts start p → Follows parts start (record { world = p.world; events = p.events; stop = stop; stopped = stopped })
 with_stop parts start p stop stopped so = record { led = so.led; possible = so.possible }
 
 some_same : {X : Type 0} (x y : X) → Some x ≡ Some y → x ≡ y
@@ -81,11 +81,11 @@ follows_stop parts start p i packet (Some op) (Some stop) so got due = by (nat_l
         (follows_on parts start (goes_on parts p cut_event) (Begin (only_runs p.world.tool.goal)) once tt)
     by false = with_stop parts start (goes_on parts p (ToBoard i Works)) (counted (Some stop)) p.stopped (follows_on parts start p (ToBoard i Works) so tt)
 
-follows_delivery : (parts : Parts) (start : World) (p : Playing) (i : ℕ) (o : Option Packet) → Follows parts start p → slice_get p.world.requests i ≡ o → Follows parts start (delivers parts p i o)
+pub follows_delivery : (parts : Parts) (start : World) (p : Playing) (i : ℕ) (o : Option Packet) → Follows parts start p → slice_get p.world.requests i ≡ o → Follows parts start (delivers parts p i o)
 follows_delivery parts start p i None so got = so
 follows_delivery parts start p i (Some packet) so got = follows_stop parts start p i packet (due_operation p.world packet) p.stop so got refl
 
-follows_answer : (parts : Parts) (start : World) (p : Playing) (j : ℕ) (o : Option Packet) → Follows parts start p → Follows parts start (answers_reach parts p j o)
+pub follows_answer : (parts : Parts) (start : World) (p : Playing) (j : ℕ) (o : Option Packet) → Follows parts start p → Follows parts start (answers_reach parts p j o)
 follows_answer parts start p j None so = so
 follows_answer parts start p j (Some reply) so = follows_on parts start p (ToTool j) so tt
 
