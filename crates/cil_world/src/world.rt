@@ -9,6 +9,7 @@ ghost use Rattle.type_names.specs.Opening.{files_opened, Opens};
 ghost use Rattle.type_names.specs.Resolved.{type_id, type_resolved};
 ghost use Rattle.class_table.specs.Seen.{classes_seen};
 ghost use Rattle.class_table.specs.Whole.{IsTable};
+ghost use Rattle.member_references.specs.Meant.{AreReferences};
 ghost use Rattle.member_references.specs.Resolved.{field_id, method_id, field_resolved, method_resolved};
 
 use crate::table::read_table;
@@ -110,6 +111,13 @@ impl<'a> World<'a> {
         ensures { result.now ≡ self.now }
     {
         &self.names
+    }
+
+    /// What the references of the files to fields and methods name (ECMA-335 II.22.25).
+    pub fn references(&self) -> &References
+        ensures { AreReferences self.now result.now }
+    {
+        &self.references
     }
 
     /// The class or interface that a TypeDef or TypeRef token of a file names (ECMA-335 II.22.37, II.22.38): a type of

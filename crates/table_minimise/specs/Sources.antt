@@ -12,5 +12,5 @@ pub record AreSources (s : Read) : Type 0 where
   pub table : IsTable s.world.now s.methods.table
   pub sort : s.methods.sort ≡ Method
   pub apart : AreApart (classes_seen s.methods.table)
-  pub references : AreReferences s.world.now s.references
+  pub references : AreReferences s.world.now s.references.now
   pub thrown : IsThrown (classes_seen s.methods.table) s.thrown

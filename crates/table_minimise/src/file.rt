@@ -118,7 +118,7 @@ pub fn add_file(
     add_signatures(rules, tables, file)?;
     add_methods(alloc, rules, pe, tables, file)?;
     add_types(rules, rows, tables, file)?;
-    add_definitions(rules, sources.world, &sources.references, file)?;
+    add_definitions(rules, sources.world, sources.references, file)?;
     add_members(rules, rows, &sources.thrown, file)?;
     add_slots(alloc, rules, &sources.methods, file)?;
     Ok(())

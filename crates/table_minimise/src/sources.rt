@@ -8,7 +8,7 @@ ghost use Rattle.judged_classes.specs.Judged.{IsJudged};
 ghost use Rattle.table_minimise.specs.Sources.{AreSources};
 
 use cil_world::World;
-use member_references::{References, read_references};
+use member_references::References;
 use member_rules::{Thrown, find_thrown};
 use member_search::{MemberIndex, Sort};
 use plain_types::fault::NoMemory;
@@ -20,7 +20,7 @@ use std::alloc::Global;
 pub struct Sources<'w, 'a> {
     pub world: &'w World<'a>,
     pub methods: MemberIndex<'w, 'a>,
-    pub references: References,
+    pub references: &'w References,
     pub thrown: Thrown,
 }
 
@@ -36,12 +36,11 @@ pub fn read_sources<'w, 'a>(
 {
     let table = world.classes();
     let methods = MemberIndex::new(alloc, table, Sort::Method)?;
-    let references = read_references(alloc, world.names(), table)?;
     let thrown = find_thrown(table)?;
     Ok(Sources {
         world,
         methods,
-        references,
+        references: world.references(),
         thrown,
     })
 }

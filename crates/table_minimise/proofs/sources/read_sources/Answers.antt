@@ -2,9 +2,6 @@ use Rattle.std.proofs.Common.{sym, ap, subst}
 use Rattle.class_table.specs.Seen.{classes_seen}
 use Rattle.class_table.specs.Whole.{IsTable}
 use Rattle.class_targets.specs.Virtual.{AreApart}
-use Rattle.file_tables.specs.File.{FilePart}
-use Rattle.std.specs.Prelude.{List}
-use Rattle.member_references.specs.Meant.{AreReferences}
 use Rattle.member_rules.specs.Thrown.{IsThrown}
 use Rattle.member_search.specs.Shown.{Indexed}
 use Rattle.table_minimise.proofs.WorldLaws.{methods_apart}
@@ -19,6 +16,6 @@ returns-clause-sources c =
       table = subst (λ (i : Indexed). IsTable files i.table) (sym index) c.classes-table.ensures.rows;
       sort = ap (λ (i : Indexed). i.sort) index;
       apart = subst (λ (i : Indexed). AreApart (classes_seen i.table)) (sym index) (methods_apart files t c.classes-table.ensures.rows c.requires.judged);
-      references = subst (λ (xs : List FilePart). AreReferences xs c.in_ok-references.references) c.names.ensures c.in_ok-references.ensures;
+      references = c.references.ensures;
       thrown = subst (λ (i : Indexed). IsThrown (classes_seen i.table) c.in_ok-thrown.thrown) (sym index) c.in_ok-thrown.ensures;
     }
