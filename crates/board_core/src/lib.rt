@@ -1,7 +1,7 @@
 //! What a board does with the packets that reach it.
 #![tactic(auto)]
 
-mod core;
+mod board;
 mod doing;
 mod handled;
 pub mod law;
@@ -9,7 +9,7 @@ mod operating;
 mod replies;
 mod runs;
 
-pub use core::Core;
+pub use board::Core;
 pub use handled::Handled;
 pub use operating::{Asked, PowerOff, handle_operation, operate, operation_asked};
 pub use runs::{Ended, Runs};
