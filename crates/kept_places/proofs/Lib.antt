@@ -1,0 +1,3 @@
+pub mod StartLaws
+pub mod ClauseLaws
+pub mod LeadLaws
