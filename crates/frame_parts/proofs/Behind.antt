@@ -1,13 +1,12 @@
 -- The parts of a frame.
 use Rattle.std.specs.Int.{w32, cast_signed, cast_unsigned}
-use Rattle.std.proofs.Common.{◌≡◌, ℕ, ℤ, pos, ◌+◌, ◌<◌, ◌≤◌, Bool, true, List, Some, refl, sym, ap, ◌∙◌, subst, arith}
-use Rattle.std.specs.Prelude.{sum, slice_index, slice_set, unwrap_or}
+use Rattle.std.proofs.Common.{◌≡◌, ℕ, pos, ◌+◌, ◌<◌, ◌≤◌, true, sym, ap, subst, arith}
+use Rattle.std.specs.Prelude.{sum, slice_index, unwrap_or}
 use Rattle.std.proofs.lemmas.Int.{ints}
 use Rattle.plain_types.specs.declared.elem.Elem.TheVariants.{Class, I4}
-use Rattle.board_types.specs.declared.value.Value.{Value}
 use Rattle.board_types.specs.declared.value.Value.TheVariants.{Int, Ref}
 use Rattle.tiny_ram.specs.declared.parts.Part.{Part}
-use Rattle.tiny_ram.specs.Memory.{RamFrame, part_of, part_value, frame_value, PartTakes, FrameTakes, with_part, with_frame_value, shown}
+use Rattle.tiny_ram.specs.Memory.{RamFrame, part_value, frame_value, PartTakes, FrameTakes, with_part, with_frame_value, shown}
 use Rattle.memory_states.specs.States.{place_held}
 use Rattle.tiny_except.specs.Unwinding.{number_in}
 use Rattle.tiny_except.proofs.Tops.{slot_part, depth_part, initialiser_part}

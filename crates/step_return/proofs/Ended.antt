@@ -1,8 +1,8 @@
 -- A frame that has ended, and its caller that goes on.
 use Rattle.std.specs.Int.{w32, cast_signed, cast_unsigned}
 use Rattle.std.proofs.lemmas.Int.{of_z-to_z}
-use Rattle.std.proofs.Common.{◌≡◌, ℕ, ℤ, ◌^◌, ◌<◌, ◌≤◌, Bool, true, false, List, [], ◌∷◌, length, Option, Some, None, refl, sym, ap, ◌∙◌, subst, arith}
-use Rattle.std.specs.Prelude.{slice_index, nat_lt}
+use Rattle.std.proofs.Common.{◌≡◌, ℕ, ℤ, ◌^◌, ◌<◌, Bool, true, false, List, [], ◌∷◌, length, Option, Some, None, refl, sym, ap, ◌∙◌, subst, arith}
+use Rattle.std.specs.Prelude.{slice_index}
 use Rattle.std.specs.Option.{option_map}
 use Rattle.std.proofs.lemmas.Bool.{ltb-true, ltb-false}
 use Rattle.board_types.specs.declared.board.TypeAt.{TypeAt}
@@ -10,17 +10,17 @@ use Rattle.board_types.specs.declared.value.Value.{Value as RamValue}
 use Rattle.board_types.specs.declared.value.Value.TheVariants as ram
 use Rattle.machine.specs.Data.{Id, Value, Int, Long, Null, Object, Handle, Pointer, Thing, Frame, State}
 use Rattle.machine.specs.Data as machine
-use Rattle.machine.specs.Program.{Program, Method, Line}
+use Rattle.machine.specs.Program.{Program, Line}
 use Rattle.machine.specs.Throw.{on_some, goes}
 use Rattle.machine.specs.Calls.{with_result, hand_back, result_of, return_value}
-use Rattle.tiny_ram.specs.Memory.{RamFrame, Memory, with_frames, pushed}
-use Rattle.tiny_ram.specs.Region.{Keeps, Done}
+use Rattle.tiny_ram.specs.Memory.{RamFrame, Memory, with_frames}
+use Rattle.tiny_ram.specs.Region.{Keeps}
 use Rattle.tiny_ram.specs.declared.memory.Ram.{Ram}
-use Rattle.memory_states.specs.Values.{id_of, IsValue}
+use Rattle.memory_states.specs.Values.{id_of}
 use Rattle.memory_states.specs.States.{AreFrames, IsMachineFrame, StandsFor}
 use Rattle.memory_states.proofs.Frames.{stack_size}
 use Rattle.kept_values.specs.declared.keeping.PlaceKind.{PlaceKind}
-use Rattle.step_ends.specs.Ends.{GoesOn, Ends}
+use Rattle.step_ends.specs.Ends.{GoesOn}
 use Rattle.step_ends.specs.declared.acted.Acted.TheVariants as acted
 use Rattle.step_ends.proofs.Going.{full, on, pushed_on}
 use Rattle.step_return.specs.declared.returning.Returned.{Returned}

@@ -1,9 +1,9 @@
 -- What a method hands back.
-use Rattle.std.proofs.Common.{◌≡◌, ℕ, Bool, List, [], ◌∷◌, Option, Some, None, refl, sym, subst}
+use Rattle.std.proofs.Common.{◌≡◌, ℕ, Bool, List, ◌∷◌, Option, Some, None, refl, sym, subst}
 use Rattle.std.specs.Option.{option_map}
 use Rattle.board_types.specs.declared.value.Value.{Value as RamValue}
 use Rattle.board_types.specs.declared.value.Value.TheVariants as ram
-use Rattle.machine.specs.Data.{Id, CliType, Basic, EnumOf, ClassOf, ValueOf, ArrayOf, PlaceType, Plain, To, Cell, Bits, Refers, cell_of, elem_cell, Spot, Value, Int, Long, Null, Object, Handle, Pointer, Thing, Frame}
+use Rattle.machine.specs.Data.{Id, CliType, Basic, EnumOf, ClassOf, ValueOf, ArrayOf, PlaceType, Plain, To, Cell, Bits, Refers, elem_cell, Spot, Value, Int, Long, Null, Object, Handle, Pointer, Thing, Frame}
 use Rattle.machine.specs.Program.{Program}
 use Rattle.machine.specs.Numbers.{Holds, kept_in, kept_by, kept}
 use Rattle.machine.specs.Throw.{on_some}

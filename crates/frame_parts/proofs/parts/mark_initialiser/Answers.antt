@@ -1,5 +1,4 @@
-use Rattle.std.proofs.Common.{◌≡◌, ◌+◌, pos, true, sym, ap, ◌∙◌, subst, arith}
-use Rattle.std.specs.Prelude.{sum}
+use Rattle.std.proofs.Common.{◌≡◌, pos, true, sym, ap, ◌∙◌, subst, arith}
 use Rattle.plain_types.specs.declared.elem.Elem.{Elem}
 use Rattle.plain_types.specs.declared.elem.Elem.TheVariants.{I4}
 use Rattle.board_types.specs.declared.value.Value.TheVariants.{Int}

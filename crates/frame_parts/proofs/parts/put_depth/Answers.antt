@@ -1,6 +1,6 @@
 use Rattle.std.specs.Int.{w32, cast_signed, cast_unsigned}
 use Rattle.std.proofs.Common.{◌≡◌, ◌+◌, ◌≤◌, pos, sym, ap, ◌∙◌, subst, arith}
-use Rattle.std.specs.Prelude.{sum, slice_index}
+use Rattle.std.specs.Prelude.{sum}
 use Rattle.plain_types.specs.declared.elem.Elem.{Elem}
 use Rattle.plain_types.specs.declared.elem.Elem.TheVariants.{I4}
 use Rattle.board_types.specs.declared.value.Value.{Value}

@@ -1,5 +1,4 @@
-use Rattle.std.proofs.Common.{Some, subst}
-use Rattle.std.specs.Prelude.{slice_set}
+use Rattle.std.proofs.Common.{subst}
 use Rattle.tiny_ram.specs.Memory.{RamFrame, put_in_frame}
 use Rattle.tiny_ram.specs.Region.{Keeps}
 use Rattle.tiny_except.proofs.Tops.{slot_takes, slot_put}

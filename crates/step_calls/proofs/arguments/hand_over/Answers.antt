@@ -5,7 +5,7 @@ use Rattle.kept_values.specs.declared.keeping.PlaceKind.{PlaceKind}
 use Rattle.kept_values.specs.Keeping.{kept_as}
 use Rattle.tiny_ram.specs.Memory.{RamFrame, with_frames}
 use Rattle.step_calls.specs.Arguments.{AreBeside, value_of, HandedOne, HandedOver}
-use Rattle.step_calls.proofs.Handing.{caller_is, starts_at, none_handed, one_more}
+use Rattle.step_calls.proofs.Handing.{caller_is, none_handed, one_more}
 use Rattle.step_calls.proofs.arguments.hand_over.Goals as goal
 
 pub loop-i-init : goal.loop-i-init

@@ -1,4 +1,4 @@
-use Rattle.std.proofs.Common.{◌≡◌, Bool, Option, Some, None, sym, ap, ◌∙◌, subst}
+use Rattle.std.proofs.Common.{◌≡◌, Option, Some, None, sym, ap, ◌∙◌, subst}
 use Rattle.machine.specs.Data.{State}
 use Rattle.memory_states.specs.Values.{id_of}
 use Rattle.tiny_except.proofs.Tops.{top_is}

@@ -1,7 +1,7 @@
-use Rattle.std.proofs.Common.{◌≡◌, Bool, true, false, List, ◌∷◌, sym, ap, ◌∙◌, subst}
+use Rattle.std.proofs.Common.{◌≡◌, true, false, List, ◌∷◌, sym, ◌∙◌, subst}
 use Rattle.machine.specs.Data.{State}
 use Rattle.machine.specs.Calls.{hand_back}
-use Rattle.tiny_ram.specs.Memory.{RamFrame, with_frames, callers, innermost}
+use Rattle.tiny_ram.specs.Memory.{RamFrame, with_frames, callers}
 use Rattle.tiny_ram.specs.Region.{Keeps}
 use Rattle.tiny_except.proofs.Tops.{top_is, first_of, no_first}
 use Rattle.step_ends.specs.Ends.{Before}

@@ -1,4 +1,4 @@
-use Rattle.std.proofs.Common.{◌∷◌, Option, refl, sym, ap, ◌∙◌, subst}
+use Rattle.std.proofs.Common.{◌∷◌, Option, refl, sym, ◌∙◌, subst}
 use Rattle.machine.specs.Data.{State}
 use Rattle.machine.specs.Calls.{return_value}
 use Rattle.tiny_ram.specs.Memory.{with_frames}
