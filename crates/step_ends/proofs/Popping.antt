@@ -1,14 +1,13 @@
 -- The topmost value, taken off a frame's stack.
-use Rattle.std.proofs.Common.{◌≡◌, ◌≢◌, inl, inr, ℕ, zero, suc, ◌+◌, ◌-◌, ◌<◌, Bool, true, false, ◌==◌, List, [], ◌∷◌, length, Option, Some, None, refl, sym, ap, ◌∙◌, subst, arith}
-use Rattle.std.specs.Prelude.{◌⊎◌, nat_eq, if◌then◌else◌, slice_get, unwrap_or}
+use Rattle.std.proofs.Common.{◌≡◌, ◌≢◌, inl, inr, ℕ, suc, ◌+◌, ◌-◌, Bool, true, false, ◌==◌, List, [], ◌∷◌, length, Option, Some, None, refl, sym, ap, ◌∙◌, subst, arith}
+use Rattle.std.specs.Prelude.{◌⊎◌, nat_eq, if◌then◌else◌, slice_get}
 use Rattle.std.proofs.lemmas.Bool.Decides.{eqb_tells}
-use Rattle.std.proofs.lemmas.Option.{slice_get_within}
 use Rattle.board_types.specs.declared.value.Value.{Value as RamValue}
 use Rattle.machine.specs.Data.{Id, Value, Thing, Frame}
 use Rattle.machine.specs.Program.{Program}
 use Rattle.tiny_ram.specs.Memory.{RamFrame, variables, top_value, popped}
 use Rattle.memory_states.specs.Values.{IsValue}
-use Rattle.memory_states.specs.States.{place_held, stack_held, IsMachineFrame}
+use Rattle.memory_states.specs.States.{place_held, IsMachineFrame}
 use Rattle.memory_states.proofs.Frames.{value_over, arguments_kept, locals_kept}
 
 some_same : {A : Type 0} (x y : A) → Some x ≡ Some y → x ≡ y
