@@ -1,10 +1,13 @@
 -- What is spelt of a file's rows whether they are kept or not: names in UTF-8, versions of four numbers, and signatures of the form (II.22,
 -- II.23.2, II.24.2.3).
-use Rattle.std.specs.Prelude.{◌≡◌, length}
+use Rattle.std.specs.Prelude.{◌≡◌, ℕ, true, length, Some, slice_get}
 use Rattle.assemblies.specs.Rows.{AssemblyRow, TypeRow, FieldRow, MethodRow, Assembly}
+use Rattle.assemblies.specs.Chosen.{Choice}
 use Rattle.assemblies.specs.Closed.{Each}
+use Rattle.image_form.specs.Form.{Manner}
+use Rattle.image_form.specs.Whole.{Methods}
 use Rattle.image_form.specs.Limits.{IsUtf8}
-use Rattle.chosen_image.specs.Spells.{TypeSpells, SignatureSpells, RefSpells, FieldRefSpells, MethodRefSpells}
+use Rattle.chosen_image.specs.Spells.{TypeSpells, SignatureSpells, BodySpells, RefSpells, FieldRefSpells, MethodRefSpells}
 
 pub record TypeNameSpells (t : TypeRow) : Type 0 where
   pub namespace : IsUtf8 t.namespace
@@ -30,3 +33,7 @@ pub record RowsSpell (p : Assembly) : Type 0 where
   pub fields : Each FieldNameSpells p.fields
   pub methods : Each MethodNameSpells p.methods
   pub specs : Each TypeSpells p.specs
+
+-- what is left to ask of the kept methods: the code of each, or that it has none, is spelt
+abbrev pub BodiesSpell : Choice → Methods → Type 0
+BodiesSpell k ms = (n : ℕ) (x : Manner × MethodRow) → slice_get ms n ≡ Some x → k.methods n ≡ true → BodySpells x.0 (k.short n) x.1.body x.1.code
