@@ -2,3 +2,4 @@ pub mod Taking
 pub mod Ending
 pub mod Changing
 pub mod Places
+pub mod Growing

@@ -1,0 +1,36 @@
+-- The machine's acts on arrays, step by step.
+use Rattle.std.proofs.Common.{◌≡◌, ℕ, ℤ, List, [], ◌∷◌, ◌++◌, length, replicate, Option, Some, None, refl, ap, ◌∙◌}
+use Rattle.std.specs.Prelude.{unsigned_abs, if◌then◌else◌}
+use Rattle.board_types.specs.declared.board.Known.TheVariants.{Overflow}
+use Rattle.machine.specs.Data.{CliType, Cell, cell_of, end_of, Value, Object, Thing, Elements, Frame, State}
+use Rattle.machine.specs.Program.{Program}
+use Rattle.machine.specs.Numbers.{is_negative, as_int, zero_of}
+use Rattle.machine.specs.Throw.{on_some, goes, raise}
+use Rattle.machine.specs.Rows.{on_top, on_thing, on_elements, length_value}
+use Rattle.machine.specs.Objects.{new_array, load_length}
+use Rattle.step_operands.specs.Changed.{with_thing}
+
+module _ (p : Program) (s : State) (g : Frame) (gs : List Frame) (next : ℕ) where
+  abbrev pub lengths : List Value → ℕ → Thing → Option State
+  lengths rest object thing = on_elements thing (λ element values. goes p s g gs next (length_value (length values) ∷ rest))
+
+  abbrev pub length_go : Value → List Value → Option State
+  length_go this rest = on_thing p s this (lengths rest)
+
+  pub length_is : load_length p s g gs next ≡ on_top g.stack length_go
+  unfolding load_length
+  length_is = refl
+
+  module _ (element : CliType) where
+    abbrev pub made : ℤ → Thing
+    made n = Elements element (replicate (unsigned_abs n) (zero_of element))
+
+    abbrev pub counted : List Value → ℤ → Option State
+    counted rest n = if is_negative n then raise p s Overflow else goes p (with_thing s (made n)) g gs next (Object (end_of s.heap) ∷ rest)
+
+    abbrev pub array_go : Value → List Value → Option State
+    array_go v rest = on_some (as_int v) (counted rest)
+
+    pub array_is : (o : Option Cell) → cell_of element ≡ o → new_array p s g gs next element ≡ on_some o (λ cell. on_top g.stack array_go)
+    unfolding new_array
+    array_is o e = ap (λ (o : Option Cell). on_some o (λ cell. on_top g.stack array_go)) e
