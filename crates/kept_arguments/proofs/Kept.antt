@@ -1,10 +1,10 @@
 -- Arguments that are kept in place, beside the machine's.
 use Rattle.std.proofs.Common.{◌≡◌, ℕ, ◌+◌, ◌-◌, ◌<◌, ◌≤◌, Bool, true, false, List, [], ◌∷◌, length, Option, Some, None, refl, sym, ap, ◌∙◌, subst, arith}
-use Rattle.std.specs.Prelude.{sum, slice_get, slice_index, unwrap_or}
+use Rattle.std.specs.Prelude.{sum, slice_get, unwrap_or}
 use Rattle.std.proofs.lemmas.Option.{slice_get_within}
 use Rattle.board_types.specs.declared.value.Value.{Value as RamValue}
 use Rattle.board_types.specs.declared.value.Value.TheVariants.{Ref}
-use Rattle.machine.specs.Data.{Id, Value, Slot, Thing, Frame, State}
+use Rattle.machine.specs.Data.{Id, Value, Thing, Frame, State}
 use Rattle.machine.specs.Program.{Program, Method}
 use Rattle.machine.specs.Throw.{on_some}
 use Rattle.machine.specs.Rows.{Taken, take_arguments, keep_all}
@@ -13,12 +13,12 @@ use Rattle.kept_values.specs.Keeping.{kept_as}
 use Rattle.tiny_ram.specs.Memory.{RamFrame, Memory, variables}
 use Rattle.tiny_ram.specs.declared.memory.Ram.{Ram}
 use Rattle.memory_states.specs.Values.{IsValue}
-use Rattle.memory_states.specs.States.{place_held, stack_held, slot_held, slot_index, IsSlot, IsMachineFrame}
-use Rattle.memory_states.proofs.Frames.{value_over, arguments_kept, locals_kept, variables_are, stack_size}
+use Rattle.memory_states.specs.States.{place_held, slot_index, IsSlot, IsMachineFrame}
+use Rattle.memory_states.proofs.Frames.{value_over, arguments_kept, locals_kept, stack_size}
 use Rattle.step_calls.specs.declared.arguments.Given.{Given}
 use Rattle.step_calls.specs.Callees.{HasPlaces}
-use Rattle.step_calls.specs.Arguments.{held_at, value_in, value_of, IsKeptAs, LacksKind, AllKept, IsGiven}
-use Rattle.step_calls.proofs.Taking.{Taking, taking, KeptAll}
+use Rattle.step_calls.specs.Arguments.{held_at, value_in, value_of, LacksKind, AllKept, IsGiven}
+use Rattle.step_calls.proofs.Taking.{Taking, taking}
 use Rattle.step_calls.proofs.Calling.{off_stack, lacking, keeping}
 use Rattle.kept_arguments.specs.Kept.{IsOf, KeptInPlace, LacksPlace, KeepsInPlace, KeptArguments, KeepsArguments}
 

@@ -1,5 +1,4 @@
-use Rattle.std.proofs.Common.{◌≡◌, ◌+◌, ◌≤◌, length, ◌∙◌, arith}
-use Rattle.std.specs.Prelude.{sum}
+use Rattle.std.proofs.Common.{arith}
 use Rattle.step_ends.proofs.Going.{top_of}
 use Rattle.step_calls.proofs.Handing.{deep}
 use Rattle.kept_arguments.proofs.Kept.{by_result, places_are}
