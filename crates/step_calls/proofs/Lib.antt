@@ -1,4 +1,3 @@
-pub mod Initialised
 pub mod Handing
 pub mod Taking
 pub mod Starting

@@ -1,8 +1,8 @@
 use Rattle.std.proofs.Common.{true, refl}
 use Rattle.tiny_ram.specs.Memory.{RamFrame, fresh_frame, with_frame}
 use Rattle.tiny_except.proofs.Tops.{top_is, put_top}
-use Rattle.step_calls.proofs.Initialised.{no_code, takes_some, spent, starts}
-use Rattle.step_calls.proofs.initialising.start_class.Goals as goal
+use Rattle.step_initialisers.proofs.Initialised.{no_code, takes_some, spent, starts}
+use Rattle.step_initialisers.proofs.initialising.start_class.Goals as goal
 
 pub returns-then-not-callee : goal.returns-then-not-callee
 returns-then-not-callee c = λ p outer m s i k h is. no_code p s i c.args.callee is c.if-not-callee.true

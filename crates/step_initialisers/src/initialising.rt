@@ -10,8 +10,8 @@ ghost use Rattle.memory_states.specs.States.{StandsFor};
 ghost use Rattle.step_ends.specs.Ends.{Ends};
 ghost use Rattle.step_calls.specs.Callees.{IsCallee};
 
-use crate::callee::Callee;
 use frame_parts::mark_initialiser;
+use step_calls::Callee;
 use step_ends::Acted;
 use tiny_ram::Ram;
 
