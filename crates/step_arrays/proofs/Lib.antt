@@ -1,3 +1,4 @@
 pub mod Made
 pub mod Lengths
 pub mod Acts
+pub mod Reading
