@@ -88,7 +88,7 @@ const RUNS: &str = "
 2A ; - ; a.dll ; 9 ; 0 ; 0 ; 2 ; refused: rule 99 a.dll table 255 row 0 offset 0
 ; 0 ; a.dll ; 9 ; 0 ; 0 ; 2 ; refused: rule 1 a.dll table 255 row 0 offset 0
 1F 0A 19 5A 17 59 2A ; 583 ; a.dll ; 1 ; 0 ; 0 ; 2 ; refused: rule 7 a.dll table 255 row 0 offset 352
-1F 0A 19 5A 17 59 2A ; - ; a.dll ; 01 ; 0 ; 0 ; 1 ; usage: mfdeploy check FILES | run1 FILE STEPS
+1F 0A 19 5A 17 59 2A ; - ; a.dll ; 01 ; 0 ; 0 ; 1 ; usage: mfdeploy run1 FILE STEPS | check FILES | convert OUT FILES
 1F 0A 19 5A 17 59 2A ; - ; a.dll ; 6 ; 1 ; 0 ; 6 ; read fault: a.dll
 1F 0A 19 5A 17 59 2A ; - ; b.dll ; 6 ; 0 ; 0 ; 6 ; read fault: a.dll
 1F 0A 19 5A 17 59 2A ; - ; a.dll ; 6 ; 0 ; 1 ; 7 ;

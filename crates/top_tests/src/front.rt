@@ -2,18 +2,21 @@
 
 use case_text::lines_of;
 use mf_front::{End, Job, JobRefusal, Outcome, end_line, job, status, text};
-use plain_types::fault::{Fault, NoMemory, Place};
+use plain_types::fault::{Fault, Limit, NoMemory, Place};
 use plain_types::list::Text;
 use std::alloc::{AllocError, Global};
 use std::test::Fail;
 
 /// Outcomes, each with its status and its line.
 const OUTCOMES: &str = "
-usage ; 1 ; usage: mfdeploy check FILES | run1 FILE STEPS
+usage ; 1 ; usage: mfdeploy run1 FILE STEPS | check FILES | convert OUT FILES
 refused ; 2 ; refused: rule 2 a.dll table 255 row 0 offset 60
 read fault ; 6 ; read fault: b.dll
 no memory ; 8 ; no memory
 accepted ; 0 ; accepted: 12 files, 3 types, 40 methods
+over limit ; 3 ; limit: 13 65536 in Big
+converted ; 0 ; converted: 122864 bytes, 32 assemblies
+write fault ; 7 ;
 returned ; 0 ; end: returned -2147483648
 spent ; 0 ; end: steps spent
 ";
@@ -29,6 +32,17 @@ fn refused(alloc: Global) -> Result<Outcome, NoMemory> {
     let fault = Fault { rule: 2, place };
     let file = Text::copied(alloc, "a.dll")?;
     Ok(Outcome::Refused { fault, file })
+}
+
+/// The assembly `Big` has a byte of code too many.
+fn over_limit(alloc: Global) -> Result<Outcome, NoMemory> {
+    let limit = Limit {
+        number: 13,
+        count: 65_536,
+        assembly: 2,
+    };
+    let assembly = Text::copied(alloc, "Big")?;
+    Ok(Outcome::OverLimit { limit, assembly })
 }
 
 fn read_fault(alloc: Global) -> Result<Outcome, NoMemory> {
@@ -53,6 +67,12 @@ fn outcome_of(alloc: Global, name: &str) -> Result<Outcome, NoMemory> {
             types: 3,
             methods: 40,
         }),
+        "over limit" => over_limit(alloc),
+        "converted" => Ok(Outcome::Converted {
+            bytes: 122_864,
+            assemblies: 32,
+        }),
+        "write fault" => Ok(Outcome::WriteFault),
         "returned" => ran(alloc, End::Returned(-2147483648)),
         _ => ran(alloc, End::StepsSpent),
     }
@@ -92,6 +112,13 @@ check a.dll | yes
 check b - b | yes
 check | no
 check a.dll -x | no
+convert o.pe a.dll | yes
+convert a.dll a.dll b | yes
+convert - - | yes
+convert o.pe | no
+convert | no
+convert -o a.dll | no
+convert o.pe -a | no
 | no
 ";
 
@@ -102,6 +129,9 @@ fn has_words(found: &Job, words: &[String]) -> bool {
             file.as_str() == name.as_str() && count.as_str().parse::<u64>().ok() == Some(*steps)
         }
         (Job::Check { files }, [_, names @ ..]) => are_names(files.as_slice(), names),
+        (Job::Convert { out, files }, [_, name, names @ ..]) => {
+            out.as_str() == name.as_str() && are_names(files.as_slice(), names)
+        }
         _ => false,
     }
 }
