@@ -3,5 +3,7 @@
 #![tactic(auto)]
 
 mod methods;
+mod types;
 
 pub use methods::{may_call, may_call_virtual};
+pub use types::{is_number_type, is_plain_type};
