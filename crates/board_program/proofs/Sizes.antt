@@ -43,7 +43,7 @@ one_byte = refl
 two_bytes : all_say 65024 TWO_BYTES ≡ true
 two_bytes = refl
 
-says_opcode : (op : ℕ) (row : Row) → row_of op ≡ Some row → row.opcode ≡ op
+pub says_opcode : (op : ℕ) (row : Row) → row_of op ≡ Some row → row.opcode ≡ op
 says_opcode op row e = eqb-true row.opcode op (by (nat_lt op 65024) refl e) where
   by : (b : Bool) → nat_lt op 65024 ≡ b → (if b then entry_of ONE_BYTE op else entry_of TWO_BYTES (op - 65024)) ≡ Some row → says op (Some row) ≡ true
   by true lt e =

@@ -51,7 +51,7 @@ fn own_type(set: &BoundSet<'_, '_, '_, '_>, file: u16, row: u16) -> Option<Class
 
 /// The class that a token of an image names; `None` where there is none, and for a type specification.
 #[tactic(auto, using(crate::proofs::SetLaws::token_own, crate::proofs::SetLaws::token_named, crate::proofs::SetLaws::token_none))]
-fn named(set: &BoundSet<'_, '_, '_, '_>, file: u16, token: TypeToken) -> Option<ClassId>
+pub fn named(set: &BoundSet<'_, '_, '_, '_>, file: u16, token: TypeToken) -> Option<ClassId>
     ensures { option_map class_seen result ≡ resolve (size_of (seen_all set.now)) (seen_all set.now) file (token_seen token) }
 {
     let word = token.0;

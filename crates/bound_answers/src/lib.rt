@@ -11,6 +11,6 @@ mod set;
 mod subclass;
 
 pub use answers::{data_byte, is_sub};
-pub use clauses::clause;
+pub use clauses::{clause, named};
 pub use names::name_unit;
 pub use set::BoundSet;

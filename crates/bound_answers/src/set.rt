@@ -62,6 +62,20 @@ impl<'s, 'w, 't, 'a> BoundSet<'s, 'w, 't, 'a> {
         self.types
     }
 
+    /// The names of the set, with its images.
+    pub fn names(&self) -> &'s Names<'w, 'a>
+        ensures { result.now ≡ self.now }
+    {
+        self.names
+    }
+
+    /// What the references of the set's images name.
+    pub fn bindings(&self) -> &'s Bindings
+        ensures { named_by result.now.files.items ≡ named (seen_all self.now) }
+    {
+        self.bindings
+    }
+
     /// The image of an assembly.
     pub(crate) fn image(&self, file: u16) -> Option<&'w Image<'a>>
         ensures { option_map rows_seen (option_copied result) ≡ slice_get (seen_all self.now) file }

@@ -1,0 +1,4 @@
+pub mod CodeLaws
+pub mod SpecLaws
+pub mod MeaningLaws
+pub mod TokenLaws
