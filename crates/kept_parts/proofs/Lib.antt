@@ -1,3 +1,3 @@
-mod PlaceLaws
+pub mod PlaceLaws
 mod CountLaws
 mod PartLaws

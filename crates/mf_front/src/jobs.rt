@@ -15,6 +15,9 @@ pub enum Job {
     /// Reads assemblies, and tells the first rule that they break behind the base library, if they do. There are 1 to
     /// 1,000 files.
     Check { files: Items<Text> },
+    /// Converts assemblies that break no rule, with the base library, into one set of images, and puts it into the file
+    /// `out`. There are 1 to 1,000 files, and `out` may be one of them.
+    Convert { out: Text, files: Items<Text> },
 }
 
 impl Job {
@@ -24,7 +27,7 @@ impl Job {
     {
         match self {
             Job::Run1 { file, .. } => slice::from_ref(file),
-            Job::Check { files } => files.as_slice(),
+            Job::Check { files } | Job::Convert { files, .. } => files.as_slice(),
         }
     }
 }

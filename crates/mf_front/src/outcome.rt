@@ -1,6 +1,6 @@
 //! What a call comes to.
 
-use plain_types::fault::Fault;
+use plain_types::fault::{Fault, Limit};
 use plain_types::list::{Items, Text};
 
 /// How a run ended.
@@ -34,6 +34,19 @@ pub enum Outcome {
         types: u64,
         methods: u64,
     },
+    /// What is kept of accepted files passes a limit of the image format: in the assembly of this name, or in the set.
+    OverLimit {
+        limit: Limit,
+        assembly: Text,
+    },
+    /// The files were converted into a set of so many bytes, the images of so many assemblies, those of the base library
+    /// among them; and the set was put into the store.
+    Converted {
+        bytes: u64,
+        assemblies: u16,
+    },
+    /// The store failed when the set was put into it. Nothing is printed.
+    WriteFault,
     /// A run ended, with this status and this finished text.
     Ran {
         status: u8,

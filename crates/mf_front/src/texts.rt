@@ -3,15 +3,15 @@
 ghost use Rattle.std.specs.Prelude.{◌≡◌, ◌++◌, IfOk};
 ghost use Rattle.std.specs.Fmt.{decimal};
 ghost use Rattle.std.specs.String.{string_bytes};
-ghost use Rattle.mf_front.specs.Texts.{place_text, refused_text, accepted_text, end_text, status_of, text_of};
+ghost use Rattle.mf_front.specs.Texts.{place_text, refused_text, accepted_text, limit_text, converted_text, end_text, status_of, text_of};
 
 use crate::outcome::{End, Outcome};
-use plain_types::fault::{Fault, NoMemory, Place};
+use plain_types::fault::{Fault, Limit, NoMemory, Place};
 use plain_types::list::Items;
 use std::alloc::{AllocError, Global};
 
 /// The line that tells which words are a job.
-const USAGE: &str = "usage: mfdeploy check FILES | run1 FILE STEPS\n";
+const USAGE: &str = "usage: mfdeploy run1 FILE STEPS | check FILES | convert OUT FILES\n";
 
 /// A label and a number behind it.
 fn labelled(alloc: Global, label: &str, number: u64) -> Result<String, AllocError>
@@ -61,6 +61,32 @@ fn accepted(alloc: Global, files: u16, types: u64, methods: u64) -> Result<Strin
     Ok(text)
 }
 
+/// The line of a limit that is passed.
+#[tactic(auto, unfolding(crate::specs::Texts::limit_text))]
+fn over_limit(alloc: Global, limit: &Limit, assembly: &str) -> Result<String, AllocError>
+    ensures { IfOk result (λ text. string_bytes text ≡ limit_text limit.now assembly.now) }
+{
+    let mut text = labelled(alloc, "limit: ", u64::from(limit.number))?;
+    let count = labelled(alloc, " ", limit.count)?;
+    text.push_str(count.as_str())?;
+    text.push_str(" in ")?;
+    text.push_str(assembly)?;
+    text.push_str("\n")?;
+    Ok(text)
+}
+
+/// The line of a set that was converted.
+#[tactic(auto, unfolding(crate::specs::Texts::converted_text))]
+fn converted(alloc: Global, bytes: u64, assemblies: u16) -> Result<String, AllocError>
+    ensures { IfOk result (λ text. string_bytes text ≡ converted_text bytes assemblies) }
+{
+    let mut text = labelled(alloc, "converted: ", bytes)?;
+    let assemblies = labelled(alloc, " bytes, ", u64::from(assemblies))?;
+    text.push_str(assemblies.as_str())?;
+    text.push_str(" assemblies\n")?;
+    Ok(text)
+}
+
 /// The line that tells want of memory; it takes none.
 #[tactic(auto, unfolding(crate::specs::Texts::text_of))]
 pub fn no_memory_text() -> &'static str
@@ -89,7 +115,7 @@ pub fn end_line(alloc: Global, end: End) -> Result<Items<u8>, NoMemory>
 }
 
 /// The text of an outcome. A text ends with a line end, but for that of a run, which is what the run's board tells; so it
-/// needn't be UTF-8.
+/// needn't be UTF-8; and where the store failed at a put, nothing is told.
 #[tactic(auto, unfolding(crate::specs::Texts::text_of, crate::specs::Texts::usage_text))]
 pub fn text(alloc: Global, outcome: &Outcome) -> Result<Vec<u8>, NoMemory>
     ensures { IfOk result (λ text. text.items ≡ text_of outcome.now) }
@@ -109,6 +135,13 @@ pub fn text(alloc: Global, outcome: &Outcome) -> Result<Vec<u8>, NoMemory>
             types,
             methods,
         } => bytes_of(alloc, accepted(alloc, *files, *types, *methods)?.as_str())?,
+        Outcome::OverLimit { limit, assembly } => {
+            bytes_of(alloc, over_limit(alloc, limit, assembly.as_str())?.as_str())?
+        }
+        Outcome::Converted { bytes, assemblies } => {
+            bytes_of(alloc, converted(alloc, *bytes, *assemblies)?.as_str())?
+        }
+        Outcome::WriteFault => Vec::new(alloc),
         Outcome::Ran { text, .. } => Vec::from_slice(alloc, text.as_slice())?,
     })
 }
@@ -123,6 +156,9 @@ pub fn status(outcome: &Outcome) -> u8
         Outcome::ReadFault { .. } => 6,
         Outcome::NoMemory => 8,
         Outcome::Accepted { .. } => 0,
+        Outcome::OverLimit { .. } => 3,
+        Outcome::Converted { .. } => 0,
+        Outcome::WriteFault => 7,
         Outcome::Ran { status, .. } => *status,
     }
 }

@@ -1,10 +1,10 @@
 //! The jobs that words spell.
 
-ghost use Rattle.std.specs.Prelude.{◌≡◌, ◌≤◌, Some, IfOk, IsErrOf, IsNone, length, map, not, nat_le, ◌&&◌};
+ghost use Rattle.std.specs.Prelude.{◌≡◌, ◌≤◌, Some, IfOk, IsErrOf, IsNone, length, map, ◌∷◌, not, nat_le, ◌&&◌};
 ghost use Rattle.std.specs.List.{list_all};
 ghost use Rattle.std.specs.String.{string_bytes};
 ghost use Rattle.mf_front.specs.Jobs.{files_of};
-ghost use Rattle.mf_front.specs.Words.{is_option, run1_of, check_of, job_of};
+ghost use Rattle.mf_front.specs.Words.{is_option, run1_of, check_of, convert_of, job_of};
 
 use crate::jobs::{Job, JobRefusal};
 use numerals::numeral::number;
@@ -37,8 +37,8 @@ fn are_files(words: &[String]) -> bool
     words.iter().all(|word| is_file(word))
 }
 
-/// Whether words are 1 to 1,000 files.
-fn are_check_files(words: &[String]) -> bool
+/// Whether words are the files of a job: 1 to 1,000.
+fn are_job_files(words: &[String]) -> bool
     ensures { result ≡ (nat_le 1 (length words.now) && nat_le (length words.now) 1000 && list_all (λ word. not (is_option (string_bytes word))) words.now) }
 {
     1 <= words.len() && words.len() <= MOST_FILES && are_files(words)
@@ -84,11 +84,42 @@ fn check(alloc: Global, words: &[String]) -> Result<Job, JobRefusal>
     ensures few { IfOk result (λ job. length (files_of job) ≤ 1000) }
     ensures none { IsErrOf result JobRefusal.NoJob → IsNone (check_of (map string_bytes words.now)) }
 {
-    if !are_check_files(words) {
+    if !are_job_files(words) {
         return Err(JobRefusal::NoJob);
     }
     let files = texts(alloc, words)?;
     Ok(Job::Check { files })
+}
+
+/// The job `convert OUT FILES` with these words.
+#[tactic(auto, using(crate::proofs::WordLaws::out_found, crate::proofs::WordLaws::no_out, crate::proofs::WordLaws::no_out_files))]
+fn convert_into(alloc: Global, out: &str, files: &[String]) -> Result<Job, JobRefusal>
+    ensures found { IfOk result (λ job. convert_of (out.now ∷ map string_bytes files.now) ≡ Some job) }
+    ensures few { IfOk result (λ job. length (files_of job) ≤ 1000) }
+    ensures none { IsErrOf result JobRefusal.NoJob → IsNone (convert_of (out.now ∷ map string_bytes files.now)) }
+{
+    if is_option(out) {
+        return Err(JobRefusal::NoJob);
+    }
+    if !are_job_files(files) {
+        return Err(JobRefusal::NoJob);
+    }
+    let out = Text::copied(alloc, out)?;
+    let files = texts(alloc, files)?;
+    Ok(Job::Convert { out, files })
+}
+
+/// The job `convert OUT FILES` of the words behind the first.
+#[tactic(auto, unfolding(crate::specs::Words::convert_of))]
+fn convert(alloc: Global, words: &[String]) -> Result<Job, JobRefusal>
+    ensures found { IfOk result (λ job. convert_of (map string_bytes words.now) ≡ Some job) }
+    ensures few { IfOk result (λ job. length (files_of job) ≤ 1000) }
+    ensures none { IsErrOf result JobRefusal.NoJob → IsNone (convert_of (map string_bytes words.now)) }
+{
+    match words {
+        [] => Err(JobRefusal::NoJob),
+        [out, files @ ..] => convert_into(alloc, out.as_str(), files),
+    }
 }
 
 /// The job that the words after the program's name spell; it has at most 1,000 files. `NoJob` comes only where they
@@ -105,6 +136,7 @@ pub fn job(alloc: Global, words: &[String]) -> Result<Job, JobRefusal>
     match command.as_str() {
         "run1" => run1(alloc, words),
         "check" => check(alloc, words),
+        "convert" => convert(alloc, words),
         _ => Err(JobRefusal::NoJob),
     }
 }

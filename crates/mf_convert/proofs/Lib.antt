@@ -1,0 +1,3 @@
+pub mod ImagesLaws
+pub mod JudgedLaws
+pub mod OneLaws
