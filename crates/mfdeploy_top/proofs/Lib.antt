@@ -1,4 +1,5 @@
 pub mod FormLemmas
 pub mod JobLaws
 pub mod CheckLaws
+pub mod ConvertLaws
 pub mod WritingLemmas

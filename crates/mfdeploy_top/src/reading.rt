@@ -1,8 +1,8 @@
 //! Reading the files of a job.
 
-ghost use Rattle.std.specs.Prelude.{◌≡◌, ◌⊎◌, IfOk, IfErr, map};
+ghost use Rattle.std.specs.Prelude.{◌≡◌, ◌⊎◌, IfOk, IfErr, OnOk, map};
 ghost use Rattle.mf_types.specs.Files.{FilesStay};
-ghost use Rattle.mfdeploy_top.specs.Jobs.{AreRead, IsUnreadOf};
+ghost use Rattle.mfdeploy_top.specs.Jobs.{AreRead, IsUnreadOf, IsReadOnly};
 
 use mf_types::store::{Store, StoreErr};
 use plain_types::fault::NoMemory;
@@ -45,6 +45,7 @@ pub fn read_files<S: Store>(
     store: &mut S,
 ) -> Result<Vec<Vec<u8>>, Unread>
     ensures read { IfOk result (λ all. AreRead (S.state store.old) files.now (map (λ bytes. bytes.items) all.items)) }
+    ensures read_only { OnOk result (IsReadOnly (S.state store.old) (S.state store.new)) }
     ensures unread { IfErr result (IsUnreadOf files.now (S.state store.old) (S.state store.new)) }
     ensures files_stay { FilesStay (S.state store.old).held (S.state store.new).held }
 {

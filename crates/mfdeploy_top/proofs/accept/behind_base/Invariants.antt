@@ -1,8 +1,8 @@
 use Rattle.std.proofs.Common.{◌≡◌, ◌++◌, map}
 use Rattle.std.specs.Vec.Iter.{into_iter_items, into_iter_len}
 use Rattle.std.proofs.Common.{length}
-use Rattle.mfdeploy_top.specs.Check.{base_bytes}
-use Rattle.mfdeploy_top.proofs.check.behind_base.Given as goal
+use Rattle.mfdeploy_top.specs.Accepted.{base_bytes}
+use Rattle.mfdeploy_top.proofs.accept.behind_base.Given as goal
 
 abbrev pub invariant-loop-file : goal.invariant-loop-file
 invariant-loop-file l = record {
